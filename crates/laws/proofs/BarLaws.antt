@@ -1,0 +1,78 @@
+-- Bars: section 4's bars follow one another, and every bar lies before the last bar's end.
+use Prim.Native.Nat.{ℕ, zero, suc, _+_, _≤_, _<_}
+use mathlib.Core.List.{List, [], _∷_, map}
+use mathlib.Core.Logic.{inl, inr}
+use mathlib.Core.Path.{_≡_, refl}
+use lib.ListN.{length}
+use native.Mathlib.Omega.{arith}
+use borrow.Author.Tests.{le-leb, lt-leb}
+use Rattle.rules.specs.Lists.{lastOr, sum, All}
+use Rattle.rules.specs.Changes.{Meter}
+use Rattle.rules.specs.Bars.{Bar, barLength, barEnd, barsFrom, lastBarEnd}
+use Rattle.laws.specs.Lines.{Consecutive}
+use Rattle.laws.proofs.VerdictLists.{by-lt}
+
+-- ---- the bars of a meter
+
+-- the bar at tick t
+abbrev pub barAt : ℕ → (ℕ → Meter) → ℕ → Bar
+barAt p m t = record { start = t; len = barLength p (m t); meter = m t }
+
+pub bars-none : (p : ℕ) (m : ℕ → Meter) (end t : ℕ) → barsFrom zero p m end t ≡ []
+unfolding barsFrom
+bars-none p m end t = refl
+
+module _ (n p : ℕ) (m : ℕ → Meter) (end t : ℕ) where
+  pub bars-last : end ≤ t + barLength p (m t) → barsFrom (suc n) p m end t ≡ barAt p m t ∷ []
+  unfolding barsFrom
+  bars-last h = rw (le-leb end (t + barLength p (m t)) h)
+
+  pub bars-more : t + barLength p (m t) < end
+      → barsFrom (suc n) p m end t ≡ barAt p m t ∷ barsFrom n p m end (t + barLength p (m t))
+  unfolding barsFrom
+  bars-more h = rw (lt-leb end (t + barLength p (m t)) h)
+
+  -- the first bar is always there
+  pub bars-some : 0 < length (barsFrom (suc n) p m end t)
+  unfolding barsFrom
+  bars-some = omega arith
+
+pub bars-consecutive : (n p : ℕ) (m : ℕ → Meter) (end t : ℕ) → Consecutive t (barsFrom n p m end t)
+bars-consecutive zero p m end t = rw (bars-none p m end t) tt
+bars-consecutive (suc n) p m end t =
+    elim (by-lt (t + barLength p (m t)) end) [
+      | inl h ↦ rw (bars-more n p m end t h) (refl, omega arith, bars-consecutive n p m end (t + barLength p (m t)))
+      | inr h ↦ rw (bars-last n p m end t h) (refl, omega arith, tt)
+    ]
+
+-- ---- the last bar's end
+
+abbrev pub lengths : List Bar → List ℕ
+lengths bs = map (λ (b : Bar). b .len) bs
+
+last-from : (t : ℕ) (bs : List Bar) → Consecutive t bs → lastOr t (map barEnd bs) ≡ t + sum (lengths bs)
+unfolding sum
+last-from t [] h = omega arith
+last-from t (b ∷ bs) h = omega (arith, last-from (barEnd b) bs (h .2))
+
+-- a row of bars from tick 0
+pub last-bar-end-from-zero : (bs : List Bar) → Consecutive 0 bs → lastBarEnd bs ≡ sum (lengths bs)
+last-bar-end-from-zero bs h = omega (arith, last-from 0 bs h)
+
+-- a row of bars from any tick
+pub last-bar-end-from : (t : ℕ) (bs : List Bar) → 0 < length bs → Consecutive t bs → lastBarEnd bs ≡ t + sum (lengths bs)
+last-bar-end-from t [] some h = absurd (omega arith)
+last-bar-end-from t (b ∷ bs) some h = last-from t (b ∷ bs) h
+
+bars-before : (e t : ℕ) (bs : List Bar) → t + sum (lengths bs) ≤ e → Consecutive t bs
+    → All (λ (b : Bar). (b .start < e) × (barEnd b ≤ e)) bs
+unfolding sum
+bars-before e t [] room h = tt
+bars-before e t (b ∷ bs) room h = ((omega arith, omega arith), bars-before e (barEnd b) bs (omega arith) (h .2))
+
+-- a bar starts before the last bar's end, and ends there at the latest
+pub last-bar-end : (t : ℕ) (bs : List Bar) → Consecutive t bs
+    → All (λ (b : Bar). (b .start < lastBarEnd bs) × (barEnd b ≤ lastBarEnd bs)) bs
+last-bar-end t [] h = tt
+last-bar-end t (b ∷ bs) h =
+    bars-before (lastBarEnd (b ∷ bs)) t (b ∷ bs) (omega (arith, last-from t (b ∷ bs) h)) h

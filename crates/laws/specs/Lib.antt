@@ -1,0 +1,9 @@
+pub mod Admitted
+pub mod Claims
+pub mod Ladder
+pub mod Lines
+pub mod Notes
+pub mod Parts
+pub mod Says
+pub mod Sort
+pub mod Standards

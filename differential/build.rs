@@ -1,0 +1,19 @@
+//! Takes the reference at build time; no text of it stands in this package.
+
+#[allow(dead_code)]
+mod slicing;
+
+use std::{env, fs, path::Path};
+
+fn main() {
+    println!("cargo::rerun-if-changed=build.rs");
+    println!("cargo::rerun-if-changed=slicing.rs");
+    let out = env::var("OUT_DIR").expect("cargo sets OUT_DIR");
+    let (out, reference) = (Path::new(&out), Path::new(slicing::REFERENCE));
+    slicing::copy(reference, &slicing::WHOLE, out);
+    for (file, name, wanted) in slicing::SLICES {
+        let text = slicing::slice(&slicing::read(reference, file), wanted)
+            .unwrap_or_else(|error| panic!("{file}: {error}"));
+        fs::write(out.join(name), text).expect("the slice can be written");
+    }
+}

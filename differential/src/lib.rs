@@ -1,0 +1,12 @@
+//! The Rust reference of the MIDI import, compiled as it stands, and what is needed to run it
+//! beside another import: pieces, answers, refusals and a generator.
+
+pub mod answers;
+pub mod coverage;
+pub mod examples;
+pub mod generate;
+pub mod packed;
+pub mod piece;
+pub mod reference;
+pub mod refusals;
+pub mod text;

@@ -1,0 +1,98 @@
+//! The commands; see README.md.
+
+use differential::coverage::Report;
+use differential::examples::EXAMPLES;
+use differential::piece::Piece;
+use differential::{generate, reference, text};
+use std::io::Read;
+use std::process::ExitCode;
+
+const USAGE: &str = "usage: differential COMMAND
+  show [FILE]          the reference's answers to a piece, one fact a line
+  print [FILE]         what the printing program prints for a piece
+  examples             document 01's examples against the reference
+  generate SEED COUNT  the reference over generated pieces
+  piece SEED INDEX     one generated piece
+A piece is three lines of decimals: sizes, deltas, words.";
+
+fn main() -> ExitCode {
+    let arguments: Vec<String> = std::env::args().skip(1).collect();
+    let words: Vec<&str> = arguments.iter().map(String::as_str).collect();
+    let number = |word: &str| word.parse::<u64>().map_err(|_| USAGE.to_string());
+    let result = match words[..] {
+        ["show", ref file @ ..] if file.len() < 2 => show(file.first()),
+        ["print", ref file @ ..] if file.len() < 2 => print(file.first()),
+        ["examples"] => examples(),
+        ["generate", seed, count] => number(seed).and_then(|seed| run(seed, number(count)?)),
+        ["piece", seed, index] => number(seed).and_then(|seed| {
+            print!("{}", generate::numbered(seed, number(index)?).print());
+            Ok(())
+        }),
+        _ => Err(USAGE.to_string()),
+    };
+    match result {
+        Ok(()) => ExitCode::SUCCESS,
+        Err(message) => {
+            eprintln!("{message}");
+            ExitCode::FAILURE
+        }
+    }
+}
+
+/// The piece of a file or of the standard input; `None` if the text is no piece.
+fn read(file: Option<&&str>) -> Result<Option<Piece>, String> {
+    let mut bytes = Vec::new();
+    match file {
+        Some(name) => bytes = std::fs::read(name).map_err(|error| format!("{name}: {error}"))?,
+        None => drop(
+            std::io::stdin()
+                .read_to_end(&mut bytes)
+                .map_err(|error| error.to_string())?,
+        ),
+    }
+    let text = String::from_utf8(bytes).ok();
+    Ok(text.and_then(|text| Piece::parse(&text)))
+}
+
+fn show(file: Option<&&str>) -> Result<(), String> {
+    match read(file)? {
+        Some(piece) => print!("{}", text::answers(&reference::answers(&piece))),
+        None => println!("refused 1"),
+    }
+    Ok(())
+}
+
+fn print(file: Option<&&str>) -> Result<(), String> {
+    let import = read(file)?.map_or(Err(1), |piece| reference::import(&piece));
+    print!("{}", text::print(&import));
+    Ok(())
+}
+
+fn examples() -> Result<(), String> {
+    let mut differing = 0;
+    for (name, check) in EXAMPLES {
+        match check() {
+            Ok(()) => println!("ok {name}"),
+            Err(what) => {
+                println!("differs {name}: {what}");
+                differing += 1;
+            }
+        }
+    }
+    match differing {
+        0 => Ok(()),
+        _ => Err(format!("{differing} examples differ")),
+    }
+}
+
+/// The pieces one by one, so that a failing one is named.
+fn run(seed: u64, count: u64) -> Result<(), String> {
+    let mut report = Report::default();
+    for index in 0..count {
+        let piece = generate::numbered(seed, index);
+        let add = std::panic::AssertUnwindSafe(|| report.add(&piece));
+        std::panic::catch_unwind(add).map_err(|_| format!("at piece {seed} {index}"))?;
+    }
+    print!("{report}");
+    Ok(())
+}
