@@ -1,8 +1,9 @@
 -- Demand 3 on the definitions: playback of an engraved staff, and yes to every engraved staff of an even part.
-use Prim.Native.Nat.{ℕ, _<_, _∣_, _/_, _*_, max}
-use mathlib.Core.Bool.{Bool, true, false, cond}
+use Prim.Native.Nat.{ℕ, _<_, _*_}
+use mathlib.Core.Bool.{true}
 use mathlib.Core.List.{List, map}
-use mathlib.Core.Path.{_≡_, subst⁻¹}
+use mathlib.Core.Logic.{inl, inr}
+use mathlib.Core.Path.{subst⁻¹}
 use native.Mathlib.Omega.{arith}
 use borrow.Author.Tests.{not-false}
 use lib.Dec.{ltb}
@@ -10,26 +11,25 @@ use lib.ListN.{length}
 use Rattle.rules.specs.Lists.{All}
 use Rattle.rules.specs.Piece.{Piece, ticksPerQuarter}
 use Rattle.rules.specs.RawNotes.{RawNote}
-use Rattle.rules.specs.Bars.{Bar, bars, barsUpTo, barsFrom, lastBarEnd}
-use Rattle.rules.specs.Grid.{grid, sixteenth, offCount, snapped}
+use Rattle.rules.specs.Bars.{Bar, bars, barsUpTo, lastBarEnd}
+use Rattle.rules.specs.Grid.{grid, offCount, snapped}
 use Rattle.rules.specs.Voices.{voices}
 use Rattle.rules.specs.Values.{smallest}
-use Rattle.rules.specs.Items.{arraysOf}
-use Rattle.rules.specs.Staff.{engravedOn, staffOf}
-use Rattle.rules.specs.ProofReader.{played, Right, NoteFound, KeysMeant, EndsMeant}
-use Rattle.rules.specs.ProofReaderTests.{verdict, verdictOn, even?}
-use Rattle.rules.specs.Refusals.{pieceRefusals, noteRefusals, partRefusals, shortWork, unevenPart}
-use Rattle.rules.specs.Calls.{partNotes, partArrays, partEven, proofReadRefusals}
-use Rattle.laws.specs.Admitted.{Passes, Admitted}
+use Rattle.rules.specs.Staff.{engravedOn}
+use Rattle.rules.specs.ProofReader.{Right, NoteFound, KeysMeant, EndsMeant}
+use Rattle.rules.specs.Refusals.{pieceRefusals, noteRefusals, partRefusals}
+use Rattle.rules.specs.Calls.{partNotes, partEven, proofReadRefusals}
+use Rattle.laws.specs.Admitted.{Passes}
 use Rattle.laws.specs.Lines.{Line}
 use Rattle.laws.proofs.Arrays.{yes-written}
 use Rattle.laws.proofs.BarLaws.{bars-consecutive}
-use Rattle.laws.proofs.Refusals.{admitted, passes-left, passes-right, ticks-per-quarter-positive, unless-agree}
+use Rattle.laws.proofs.Order.{by-bool}
+use Rattle.laws.proofs.Lists.{All-left, All-right}
+use Rattle.laws.proofs.Refusals.{admitted, ticks-per-quarter-positive, unless-agree}
 use Rattle.laws.proofs.Splits.{split-total, split-staff}
 use Rattle.laws.proofs.Verdict.{says-even}
 use Rattle.laws.proofs.VoiceLaws.{voices-four, voices-line, voices-found, voices-meant, voices-closed}
 use Rattle.agreement.specs.Demand.{Even, PlaysBack, EngravedRight, VerdictYes, PartPlaysBack, EngravedYes}
-use Rattle.agreement.specs.Performance.{heardTo}
 use Rattle.agreement.proofs.Engraved.{Engraves, staff-engraves, staff-shape, staff-length}
 use Rattle.agreement.proofs.Heard.{heard-found, heard-meant, heard-ends}
 
@@ -73,18 +73,14 @@ verdict-yes p g ns bs even =
 
 grid-long : (p : ℕ) (ns : List RawNote) → 0 < grid p ns
 unfolding grid
-grid-long p ns = go (ltb (length ns) (offCount p ns * 10))
-  where
-    go : (t : Bool) → 0 < cond t (max 1 (p / 8)) (sixteenth p)
-    go true = omega arith
-    go false = omega arith
+grid-long p ns = elim (by-bool (ltb (length ns) (offCount p ns * 10))) [ inl t ↦ rw t (omega arith) | inr t ↦ rw t (omega arith) ]
 
 part-even : (x : Piece) (k work : ℕ) → Passes (proofReadRefusals x k work)
     → Even (ticksPerQuarter x) (grid (ticksPerQuarter x) (partNotes x k)) (bars x)
 unfolding barsUpTo
 part-even x k work h =
-    let known = admitted x (passes-left (pieceRefusals x) _ (passes-left (noteRefusals x) _ (passes-left (partRefusals x k) _ h))) in
-    let last = passes-right (partRefusals x k) _ h in
+    let known = admitted x (All-left _ (pieceRefusals x) _ (All-left _ (noteRefusals x) _ (All-left _ (partRefusals x k) _ h))) in
+    let last = All-right _ (partRefusals x k) _ h in
     let evens = says-even _ _ _ .0 (not-false (partEven x k) (last .1 .0)) in
     record {
       ticks = ticks-per-quarter-positive x known;

@@ -1,5 +1,5 @@
 -- The staff of voices in bars: its playback is the voices, its values are a staff's, its bars are full, its items clean and its ties meet.
-use Prim.Native.Nat.{ℕ, suc, _-_, _≤_, _<_, _∣_}
+use Prim.Native.Nat.{ℕ, suc, _-_, _<_, _∣_}
 use mathlib.Core.Bool.{Bool, true, false}
 use mathlib.Core.List.{List, [], _∷_, map, reverse-reverse}
 use mathlib.Core.Logic.{inl, inr}
@@ -18,8 +18,9 @@ use Rattle.rules.specs.ProofReader.{Timed, Played, Tie, StaffValue, Clean, Valu
 use Rattle.rules.specs.ProofReader.{timedFrom, voiceItems, voiceTimed, playback, played}
 use Rattle.laws.specs.Lines.{Line, Consecutive}
 use Rattle.laws.specs.Ladder.{StaffPiece}
+use Rattle.laws.proofs.Order.{by-bool}
+use Rattle.laws.proofs.Lists.{All-all, All-map, any-none, keep-none, by-four}
 use Rattle.agreement.specs.Performance.{heardTo}
-use Rattle.agreement.proofs.ListFacts.{by-bool, any-keep, by-four, All-map, All-of-map}
 use Rattle.agreement.proofs.Run.{State, quiet, Walk, stop, walk-append, walk-plays, walk-ties}
 use Rattle.agreement.proofs.Run.{Run, done, item, run-walk, run-fills, run-values, run-clean}
 use Rattle.agreement.proofs.VoiceBar.{tieOf, stateAt, state-late, bar-run}
@@ -74,7 +75,7 @@ bar-length p [] b = refl
 bar-length p (v ∷ vs) b = ap suc (length-map vs (voiceIn p false b))
 
 pub staff-shape : (p : ℕ) (vs : List (List Chord)) (bs : List Bar) → length vs ≡ 4 → All (λ (bar : List (List Item)). length bar ≡ 4) (staffOf p vs bs)
-staff-shape p vs bs four = All-of-map _ (voicesIn p vs) (λ b. bar-length p vs b ∙ four) bs
+staff-shape p vs bs four = All-map _ (voicesIn p vs) (λ b e. e ∙ four) bs (All-all (bar-length p vs) bs)
 
 pub staff-length : (p : ℕ) (vs : List (List Chord)) (bs : List Bar) → length (staffOf p vs bs) ≡ length bs
 staff-length p vs bs = length-map bs (voicesIn p vs)
@@ -111,7 +112,7 @@ module _ (p u : ℕ) (split-total : (t : ℕ) → u ∣ t → sum (map (λ (v : 
         | inl t ↦ rw t (in-bar b _ (voice-run b cs a g l))
         | inr t ↦
             let same : stateAt (b .start) cs a ≡ stateAt (barEnd b) cs a =
-            rests-quiet p (splitSpan p (barEnd b - b .start) .pieces) (rw (any-keep _ cs t) at (voice-run b cs a g l)) in
+            rests-quiet p (splitSpan p (barEnd b - b .start) .pieces) (rw (keep-none _ cs (any-none _ cs t)) at (voice-run b cs a g l)) in
             rw (t, same) (record { walk = stop; fills = tt; values = tt; clean = tt })
       ]
 
@@ -143,7 +144,7 @@ module _ (p u : ℕ) (split-total : (t : ℕ) → u ∣ t → sum (map (λ (v : 
   voices-all : (P : List Item → Type 0) (b : Bar) → ((isFirst : Bool) (cs : List Chord) → Line u 0 cs → P (voiceIn p isFirst b cs))
       → (vs : List (List Chord)) → All (Line u 0) vs → All P (voicesIn p vs b)
   voices-all P b h [] l = tt
-  voices-all P b h (v ∷ vs) l = (h true v (l .0), All-map (Line u 0) P (voiceIn p false b) (h false) vs (l .1))
+  voices-all P b h (v ∷ vs) l = (h true v (l .0), All-map P (voiceIn p false b) (h false) vs (l .1))
 
   full-from : (v : List Chord) (vs : List (List Chord)) → All (Line u 0) (v ∷ vs) → (bs : List Bar) → All (EvenBar u) bs
       → Full p bs (staffOf p (v ∷ vs) bs)
@@ -193,7 +194,7 @@ module _ (p u : ℕ) (split-total : (t : ℕ) → u ∣ t → sum (map (λ (v : 
     -- what holds of every voice of every bar
     staff-all : (P : List Item → Type 0)
         → ((isFirst : Bool) (b : Bar) (cs : List Chord) → EvenBar u b → Line u 0 cs → P (voiceIn p isFirst b cs)) → All (All P) (staffOf p vs bs)
-    staff-all P h = All-map (EvenBar u) (All P) (voicesIn p vs) (λ b g. voices-all P b (λ f cs. h f b cs g) vs lines) bs bars
+    staff-all P h = All-map (All P) (voicesIn p vs) (λ b g. voices-all P b (λ f cs. h f b cs g) vs lines) bs bars
 
     pub staff-values : Values p (staffOf p vs bs)
     staff-values = staff-all (All (StaffValue p)) (λ f b cs g l. voice-in f b cs [] g l .values)

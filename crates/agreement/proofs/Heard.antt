@@ -1,53 +1,49 @@
 -- What holds of the voices' chords holds of playback too, where it stops at tick e: points 5, 6 and 7 of a right staff.
 use Prim.Native.Nat.{ℕ, _≤_, _<_, min}
-use mathlib.Core.Bool.{true}
+use mathlib.Core.Bool.{Bool, true}
 use mathlib.Core.List.{List, [], _∷_, map}
 use mathlib.Core.Logic.{_⊎_, inl, inr, ⊎-elim}
-use mathlib.Core.Path.{_≡_, refl, _∙_}
+use mathlib.Core.Path.{_≡_, refl}
 use lib.Dec.{ltb}
 use native.Mathlib.Omega.{arith}
-use borrow.Author.Tests.{ltb-true, lt-ltb, le-ltb}
+use borrow.Author.Tests.{ltb-true, lt-ltb}
 use Rattle.rules.specs.Lists.{keep, All, Some}
 use Rattle.rules.specs.RawNotes.{RawNote}
 use Rattle.rules.specs.Voices.{Chord}
 use Rattle.rules.specs.ProofReader.{Played, HasKey, NoteFound, KeysMeant, EndsWithNote, EndsMeant}
-use Rattle.laws.specs.Lines.{Line, EndsNoted, Closed}
-use Rattle.laws.proofs.VerdictLists.{by-lt, All-imp, All-map, All-keep, Some-imp, Some-map, Some-keep}
+use Rattle.laws.specs.Lines.{Line, KeysNoted, EndsNoted, Closed}
+use Rattle.laws.proofs.Order.{by-lt}
+use Rattle.laws.proofs.Lists.{All-imp, All-map, All-keep, Some-imp, Some-map, Some-keep}
+use Rattle.laws.proofs.ChordLaws.{Has}
 use Rattle.agreement.specs.Performance.{endedBy, heardTo}
+use Rattle.agreement.proofs.VoiceBar.{heard-late}
 
 -- ---- points 5 and 6
 
 module _ (e : ℕ) where
-  voice-found : (n : RawNote) → n .start < e
-      → {cs : List Chord} → Some (λ (c : Chord). (c .start ≡ n .start) × HasKey (n .key) (c .keys)) cs
+  voice-found : (n : RawNote) → n .start < e → {cs : List Chord} → Some (Has (n .start) (n .key)) cs
       → Some (λ (c : Played). (c .start ≡ n .start) × HasKey (n .key) (c .keys)) (heardTo e cs)
   unfolding heardTo
   voice-found n early s =
-      Some-map _ (endedBy e) (Some-keep (λ (c : Chord). ltb (c .start) e) (λ c x. lt-ltb (c .start) e (omega arith)) s)
+      Some-map _ (endedBy e) (λ c x. x) (Some-keep (λ (c : Chord). ltb (c .start) e) (λ c x. lt-ltb (c .start) e (omega arith)) s)
 
-  voice-meant : (ns : List RawNote) (cs : List Chord)
-      → All (λ (c : Chord). (k : ℕ) → HasKey k (c .keys) → Some (λ (n : RawNote). (n .start ≡ c .start) × (n .key ≡ k)) ns) cs
-      → All (KeysMeant e ns) (heardTo e cs)
+  voice-meant : (ns : List RawNote) (cs : List Chord) → All (λ (c : Chord). KeysNoted ns (c .start) (c .keys)) cs → All (KeysMeant e ns) (heardTo e cs)
   unfolding heardTo
   voice-meant ns cs h =
-      let heard : List Chord = keep (λ (c : Chord). ltb (c .start) e) cs in
-      All-map (KeysMeant e ns) (endedBy e) heard (All-imp meant heard (All-keep _ (λ (c : Chord). ltb (c .start) e) cs h))
+      let begun : Chord → Bool = λ c. ltb (c .start) e in
+      All-map (KeysMeant e ns) (endedBy e) meant (keep begun cs) (All-keep _ begun cs h)
     where
-      meant : (c : Chord)
-          → (ltb (c .start) e ≡ true) × ((k : ℕ) → HasKey k (c .keys) → Some (λ (n : RawNote). (n .start ≡ c .start) × (n .key ≡ k)) ns)
-          → KeysMeant e ns (endedBy e c)
+      meant : (c : Chord) → KeysNoted ns (c .start) (c .keys) × (ltb (c .start) e ≡ true) → KeysMeant e ns (endedBy e c)
       meant c x k small has =
-          let early : c .start < e = ltb-true (c .start) e (x .0) in
-          Some-imp (λ n y. (omega arith, y .0, y .1)) (x .1 k has)
+          let early : c .start < e = ltb-true (c .start) e (x .1) in
+          Some-imp (λ n y. (omega arith, y .0, y .1)) (x .0 k has)
 
 module _ (e : ℕ) (ns : List RawNote) (vs : List (List Chord)) where
-  pub heard-found : All (λ (n : RawNote). Some (Some (λ (c : Chord). (c .start ≡ n .start) × HasKey (n .key) (c .keys))) vs) ns
-      → All (NoteFound e (map (heardTo e) vs)) ns
-  heard-found = All-imp (λ n s early. Some-map _ (heardTo e) (Some-imp (λ cs. voice-found e n early) s)) ns
+  pub heard-found : All (λ (n : RawNote). Some (Some (Has (n .start) (n .key))) vs) ns → All (NoteFound e (map (heardTo e) vs)) ns
+  heard-found = All-imp (λ n s early. Some-map _ (heardTo e) (λ cs. voice-found e n early) s) ns
 
-  pub heard-meant : All (All (λ (c : Chord). (k : ℕ) → HasKey k (c .keys) → Some (λ (n : RawNote). (n .start ≡ c .start) × (n .key ≡ k)) ns)) vs
-      → All (All (KeysMeant e ns)) (map (heardTo e) vs)
-  heard-meant h = All-map (All (KeysMeant e ns)) (heardTo e) vs (All-imp (voice-meant e ns) vs h)
+  pub heard-meant : All (All (λ (c : Chord). KeysNoted ns (c .start) (c .keys))) vs → All (All (KeysMeant e ns)) (map (heardTo e) vs)
+  heard-meant = All-map (All (KeysMeant e ns)) (heardTo e) (voice-meant e ns) vs
 
 -- ---- point 7
 
@@ -59,17 +55,6 @@ module _ (e : ℕ) (c : Chord) (cs : List Chord) where
   pub heard-first : c .start < e → heardTo e (c ∷ cs) ≡ endedBy e c ∷ heardTo e cs
   unfolding heardTo keep
   heard-first h = rw (lt-ltb (c .start) e h)
-
-  pub heard-past : e ≤ c .start → heardTo e (c ∷ cs) ≡ heardTo e cs
-  unfolding heardTo keep
-  heard-past h = rw (le-ltb (c .start) e h)
-
--- a voice that begins at tick e or later is not heard
-pub heard-late : (e u a : ℕ) (cs : List Chord) → e ≤ a → Line u a cs → heardTo e cs ≡ []
-heard-late e u a [] h l = heard-none e
-heard-late e u a (c ∷ cs) h l =
-    let long : c .start < c .end = l .1 .long in
-    heard-past e c cs (omega arith) ∙ heard-late e u (c .end) cs (omega arith) (l .2)
 
 module _ (e : ℕ) (ns : List RawNote) where
   -- a chord that ends with a note ends so, or at tick e
@@ -92,7 +77,7 @@ module _ (e : ℕ) (ns : List RawNote) where
   voice-ends u a (c ∷ []) l closed =
       elim (by-lt (c .start) e) [
         | inl h ↦ rw (heard-first e c [] h, heard-none e) (noted c closed)
-        | inr h ↦ rw (heard-late e u (c .start) (c ∷ []) h (omega arith, l .1, l .2)) tt
+        | inr h ↦ rw (heard-late u e (c .start) (c ∷ []) (omega arith, l .1, l .2) h) tt
       ]
   voice-ends u a (c ∷ d ∷ cs) l closed =
       let rest : EndsMeant e ns (heardTo e (d ∷ cs)) = voice-ends u (c .end) (d ∷ cs) (l .2) (closed .1) in
@@ -103,10 +88,10 @@ module _ (e : ℕ) (ns : List RawNote) where
                   rw (heard-first e c (d ∷ cs) h, heard-first e d cs k)
                   (before d c (omega arith) k (closed .0), rw (heard-first e d cs k) at rest)
               | inr k ↦
-                  rw (heard-first e c (d ∷ cs) h, heard-late e u (d .start) (d ∷ cs) k (omega arith, l .2 .1, l .2 .2))
+                  rw (heard-first e c (d ∷ cs) h, heard-late u e (d .start) (d ∷ cs) (omega arith, l .2 .1, l .2 .2) k)
                   (last d c k (closed .0))
             ]
-        | inr h ↦ rw (heard-late e u (c .start) (c ∷ d ∷ cs) h (omega arith, l .1, l .2)) tt
+        | inr h ↦ rw (heard-late u e (c .start) (c ∷ d ∷ cs) (omega arith, l .1, l .2) h) tt
       ]
 
   pub heard-ends : (u : ℕ) (vs : List (List Chord)) → All (Line u 0) vs → All (Closed ns) vs → All (EndsMeant e ns) (map (heardTo e) vs)

@@ -16,8 +16,9 @@ use Rattle.rules.specs.Staff.{rests, chordIn, soundsIn, filled}
 use Rattle.rules.specs.ProofReader.{Played, Tie}
 use Rattle.laws.specs.Lines.{Sound, Line}
 use Rattle.laws.specs.Ladder.{StaffPiece}
+use Rattle.laws.proofs.Order.{by-lt, dvd-min, dvd-max}
+use Rattle.laws.proofs.Lists.{All-imp, keep-none}
 use Rattle.agreement.specs.Performance.{heardTo}
-use Rattle.agreement.proofs.ListFacts.{by-lt, dvd-min, dvd-max}
 use Rattle.agreement.proofs.Run.{State, Run, done, run-append, quiet, heard, before, run-rests, run-pieces}
 
 abbrev pub tieOf : ℕ → List Chord → Option Tie
@@ -42,16 +43,23 @@ unfolding keep
 keep-past b e c cs h = rw (le-ltb b (c .end))
 
 module _ (u : ℕ) where
+  -- a voice that begins at tick e or later
+  late : (e from : ℕ) (cs : List Chord) → Line u from cs → e ≤ from → All (λ (c : Chord). e ≤ c .start) cs
+  late e from [] l o = tt
+  late e from (c ∷ cs) l o = let long : c .start < c .end = l .1 .long in (omega arith, late e (c .end) cs (l .2) (omega arith))
+
   keep-late : (e from : ℕ) (f : Chord → Bool) → ((c : Chord) → e ≤ c .start → f c ≡ false) → (cs : List Chord) → Line u from cs → e ≤ from
       → keep f cs ≡ []
-  unfolding keep
-  keep-late e from f h [] l o = refl
-  keep-late e from f h (c ∷ cs) l o = rw (h c (omega arith)) (keep-late e (c .end) f h cs (l .2) (omega arith))
+  keep-late e from f h cs l o = keep-none f cs (All-imp h cs (late e from cs l o))
+
+  pub heard-late : (e from : ℕ) (cs : List Chord) → Line u from cs → e ≤ from → heardTo e cs ≡ []
+  unfolding heardTo
+  heard-late e from cs l o = rw (keep-late e from (λ (c : Chord). ltb (c .start) e) (λ c. le-ltb _ _) cs l o)
 
   pub state-late : (t from : ℕ) (cs : List Chord) (a : List Played) → Line u from cs → t ≤ from → stateAt t cs a ≡ quiet a
-  unfolding stateAt heardTo
+  unfolding stateAt
   state-late t from cs a l o =
-      rw (keep-late t from (λ c. ltb (c .start) t) (λ c. le-ltb _ _) cs l o, keep-late t from (soundsIn t t) (not-yet t t) cs l o)
+      rw (heard-late t from cs l o, keep-late t from (soundsIn t t) (not-yet t t) cs l o)
 
   state-within : (t : ℕ) (c : Chord) (cs : List Chord) (a : List Played) → Line u (c .end) cs → c .start < t → t < c .end
       → stateAt t (c ∷ cs) a ≡ heard true t c a

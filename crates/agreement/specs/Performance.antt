@@ -1,7 +1,6 @@
 -- What playback of an engraved staff is: the voices' chords up to the last bar's end.
-use Prim.Native.Nat.{ℕ, _<_, min}
-use mathlib.Core.Bool.{Bool, cond}
-use mathlib.Core.List.{List, [], _∷_, map}
+use Prim.Native.Nat.{ℕ, min}
+use mathlib.Core.List.{List, map}
 use lib.Dec.{ltb}
 use Rattle.rules.specs.Lists.{keep}
 use Rattle.rules.specs.Voices.{Chord}

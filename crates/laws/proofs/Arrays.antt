@@ -13,7 +13,7 @@ use Rattle.rules.specs.Items.{Item, Staff, headOf, headLimit, lowKeys, highKeys
 use Rattle.rules.specs.RawNotes.{RawNote}
 use Rattle.rules.specs.ProofReader.{Values, Right, Shaped}
 use Rattle.rules.specs.ProofReaderTests.{verdictOn}
-use Rattle.laws.proofs.VerdictLists.{All-imp, All-map, All-flatten, length-flatten, length-flatten-each}
+use Rattle.laws.proofs.Lists.{All-imp, All-map, All-flatten, by-four, length-flatten, length-flatten-each}
 use Rattle.laws.proofs.Verdict.{says-verdict-on}
 
 -- an item whose code and dots have room in a head
@@ -90,12 +90,7 @@ module _ {A : Type 0} where
 
   four : (xs ys : List A) → length xs ≡ 4 → byFours (xs ++ ys) ≡ xs ∷ byFours ys
   unfolding byFours
-  four [] ys h = absurd (omega arith)
-  four (a ∷ []) ys h = absurd (omega arith)
-  four (a ∷ b ∷ []) ys h = absurd (omega arith)
-  four (a ∷ b ∷ c ∷ []) ys h = absurd (omega arith)
-  four (a ∷ b ∷ c ∷ d ∷ []) ys h = refl
-  four (a ∷ b ∷ c ∷ d ∷ e ∷ xs) ys h = absurd (omega arith)
+  four xs ys = by-four (λ zs. byFours (zs ++ ys) ≡ zs ∷ byFours ys) (λ a b c d. refl) xs
 
   fours-flatten : (xss : List (List A)) → All (λ xs. length xs ≡ 4) xss → byFours (flatten xss) ≡ xss
   unfolding byFours flatten
@@ -122,9 +117,7 @@ module _ (st : Staff) (fours : All (λ bar. length bar ≡ 4) st) (small : All (
         counts = rw length-map (omega (arith, length-flatten-each 4 st fours));
         heads = rw length-map (length-flatten (flatten st));
         keys = rw (← length-flatten (flatten st)) (pair-words (itemsOf st));
-        bits =
-            All-map (λ h. h < headLimit) headOf (itemsOf st)
-            (All-imp (λ i e. head-small i (e .0) (e .1)) (itemsOf st) small-items);
+        bits = All-map (λ h. h < headLimit) headOf (λ i e. head-small i (e .0) (e .1)) (itemsOf st) small-items;
       }
 
 -- ---- right staffs

@@ -10,7 +10,7 @@ use Rattle.rules.specs.Lists.{lastOr, sum, All}
 use Rattle.rules.specs.Changes.{Meter}
 use Rattle.rules.specs.Bars.{Bar, barLength, barEnd, barsFrom, lastBarEnd}
 use Rattle.laws.specs.Lines.{Consecutive}
-use Rattle.laws.proofs.VerdictLists.{by-lt}
+use Rattle.laws.proofs.Order.{by-lt}
 
 -- ---- the bars of a meter
 

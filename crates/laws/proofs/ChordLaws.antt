@@ -1,10 +1,10 @@
 -- What holds of a part's chords: each has a length, keys and an end that are its notes', they come in order of start, and each note is in one.
-use Prim.Native.Nat.{ℕ, _^_, _≤_, _<_, _∣_, max}
-use mathlib.Core.Bool.{Bool, true}
+use Prim.Native.Nat.{ℕ, _^_, _≤_, _<_, _∣_, zero-le}
+use mathlib.Core.Bool.{Bool, true, and-eq-true-iff}
 use mathlib.Core.List.{List, [], _∷_, map, foldl}
 use mathlib.Core.Logic.{inl, inr, ⊎-elim}
 use mathlib.Core.Path.{_≡_, refl, sym, _∙_, subst}
-use native.Mathlib.Nat.{le-refl, dvd-mul-left, dvd-trans, dvd-add, max-eq-left, max-eq-right}
+use native.Mathlib.Nat.{le-refl, dvd-mul-left, dvd-trans, dvd-add}
 use native.Mathlib.Omega.{arith}
 use lib.Bits.{bitOr}
 use lib.Pow.{pow-pos}
@@ -14,8 +14,12 @@ use Rattle.rules.specs.RawNotes.{RawNote}
 use Rattle.rules.specs.Grid.{snap, snapped}
 use Rattle.rules.specs.ProofReader.{HasKey}
 use Rattle.rules.specs.Voices.{Chord, byFallingKey, sortedNotes, opened, joins, joined, joinOrOpen, chords}
-use Rattle.laws.specs.Lines.{Sound, EndsNoted}
-use Rattle.laws.proofs.VoiceLists.{by-bool, by-le, and-left, Rises, Falls, All-map, All-all, All-self, All-maps, All-both, All-sort, All-reverse, All-change, Some-map, Some-sort, Some-change, Some-changed, Some-reverse, sort-rises, rises-by, falls-up, reverse-rises, foldl-keeps, foldl-rises, foldl-brings}
+use Rattle.laws.specs.Lines.{Sound, KeysNoted, EndsNoted}
+use Rattle.laws.specs.Sort.{Rises, FallsFrom}
+use Rattle.laws.proofs.Order.{by-bool, dvd-max}
+use Rattle.laws.proofs.Lists.{All-imp, All-all, All-self, All-map, All-both, Some-imp}
+use Rattle.laws.proofs.Folds.{All-reverse, All-change, Some-change, Some-changed, Some-reverse, falls-up, reverse-rises, foldl-keeps, foldl-rises, foldl-brings}
+use Rattle.laws.proofs.Sort.{All-sort, Some-sort, rises-sort, rises-by}
 use Rattle.laws.proofs.KeyBits.{key-left, key-right, key-cases, key-own, key-only, keyed-or}
 
 -- ---- snapped notes
@@ -39,9 +43,6 @@ SnappedOf u ns n = Snapped u n × Some (Same n) ns
 pub same-self : (n : RawNote) → Same n n
 same-self n = record { start = refl; end = refl; key = refl }
 
-dvd-max : (u a b : ℕ) → u ∣ a → u ∣ b → u ∣ max a b
-dvd-max u a b h k = elim (by-le a b) [ inl o ↦ rw (max-eq-right o) k | inr o ↦ rw (max-eq-left {n = a} {m = b} (omega arith)) h ]
-
 module _ (u g : ℕ) (ns : List RawNote) (some-grid : 0 < g) (fits : u ∣ g) where
   dvd-snap : (t : ℕ) → u ∣ snap g t
   dvd-snap t = dvd-trans u fits (dvd-mul-left g _)
@@ -56,7 +57,7 @@ module _ (u g : ℕ) (ns : List RawNote) (some-grid : 0 < g) (fits : u ∣ g) wh
 
   pub snapped-all : All (SnappedOf u (map (snapped g) ns)) (map (snapped g) ns)
   snapped-all =
-      All-both (Snapped u) _ (map (snapped g) ns) (All-maps (Snapped u) (snapped g) ns (All-all _ snapped-fits ns))
+      All-both (Snapped u) _ (map (snapped g) ns) (All-map (Snapped u) (snapped g) (λ n s. s) ns (All-all snapped-fits ns))
       (All-self Same same-self (map (snapped g) ns))
 
 -- ---- chords
@@ -64,7 +65,7 @@ module _ (u g : ℕ) (ns : List RawNote) (some-grid : 0 < g) (fits : u ∣ g) wh
 -- a chord with a length and a key, on multiples of u, each of its keys that of a note of its start
 pub record Good (u : ℕ) (ns : List RawNote) (c : Chord) : Type 0 where
   pub sound : Sound u c
-  pub meant : (k : ℕ) → HasKey k (c .keys) → Some (λ (n : RawNote). (n .start ≡ c .start) × (n .key ≡ k)) ns
+  pub meant : KeysNoted ns (c .start) (c .keys)
 
 -- a good chord that ends with a note of its start
 pub record Whole (u : ℕ) (ns : List RawNote) (c : Chord) : Type 0 where
@@ -88,7 +89,7 @@ unfolding joinOrOpen
 join-by P cs n f p = elim (by-bool (any (joins n) cs)) [ inl t ↦ rw t (f t) | inr t ↦ rw t p ]
 
 joins-start : (n : RawNote) (c : Chord) → joins n c ≡ true → c .start ≡ n .start
-joins-start n c t = eqb-true _ _ (and-left _ _ t)
+joins-start n c t = eqb-true _ _ (and-eq-true-iff _ _ .0 t .0)
 
 module _ (u : ℕ) (ns : List RawNote) where
   open-whole : (n : RawNote) → SnappedOf u ns n → Whole u ns (opened n)
@@ -97,14 +98,13 @@ module _ (u : ℕ) (ns : List RawNote) where
         good =
             record {
               sound = record { long = h .0 .long; starts = h .0 .starts; ends = h .0 .ends; keyed = pow-pos (n .key) };
-              meant = λ k b. Some-map (λ m s. (s .start, s .key ∙ key-only (n .key) k b)) (h .1);
+              meant = λ k b. Some-imp (λ m s. (s .start, s .key ∙ key-only (n .key) k b)) (h .1);
             };
-        noted = Some-map (λ m s. (s .start, s .end)) (h .1);
+        noted = Some-imp (λ m s. (s .start, s .end)) (h .1);
       }
 
   -- a chord that takes more keys of notes of its start
-  pub more-keys : (c : Chord) (m : ℕ) (b : Bool)
-      → ((k : ℕ) → HasKey k m → Some (λ (n : RawNote). (n .start ≡ c .start) × (n .key ≡ k)) ns) → Whole u ns c
+  pub more-keys : (c : Chord) (m : ℕ) (b : Bool) → KeysNoted ns (c .start) m → Whole u ns c
       → Whole u ns (record { start = c .start; end = c .end; keys = bitOr (c .keys) m; unpitched = b })
   more-keys c m b f w =
       let s : Sound u c = w .good .sound in
@@ -120,22 +120,22 @@ module _ (u : ℕ) (ns : List RawNote) where
   joined-whole : (n : RawNote) (c : Chord) → SnappedOf u ns n → joins n c ≡ true → Whole u ns c → Whole u ns (joined n c)
   joined-whole n c h t w =
       more-keys c (2 ^ n .key) _
-      (λ k b. Some-map (λ m s. (s .start ∙ sym (joins-start n c t), s .key ∙ key-only (n .key) k b)) (h .1)) w
+      (λ k b. Some-imp (λ m s. (s .start ∙ sym (joins-start n c t), s .key ∙ key-only (n .key) k b)) (h .1)) w
 
   join-whole : (cs : List Chord) (n : RawNote) → SnappedOf u ns n → All (Whole u ns) cs → All (Whole u ns) (joinOrOpen cs n)
   join-whole cs n h w =
       join-by (All (Whole u ns)) cs n
       (λ t. All-change _ _ (Whole u ns) (Whole u ns) (λ c k. k) (λ c t k. joined-whole n c h t k) cs w) (open-whole n h, w)
 
-change-falls : (n : RawNote) (a : ℕ) (cs : List Chord) → Falls chordStart a cs → Falls chordStart a (changeFirst (joins n) (joined n) cs)
+change-falls : (n : RawNote) (a : ℕ) (cs : List Chord) → FallsFrom chordStart a cs → FallsFrom chordStart a (changeFirst (joins n) (joined n) cs)
 unfolding changeFirst
 change-falls n a [] h = tt
 change-falls n a (c ∷ cs) h = elim (by-bool (joins n c)) [ inl t ↦ rw t h | inr t ↦ rw t (h .0, change-falls n (c .start) cs (h .1)) ]
 
 -- notes that come in order of start leave the chords in order, the most recent first
-pub join-falls : (s : ℕ) (cs : List Chord) (n : RawNote) → s ≤ n .start → Falls chordStart s cs → Falls chordStart (n .start) (joinOrOpen cs n)
+pub join-falls : (s : ℕ) (cs : List Chord) (n : RawNote) → s ≤ n .start → FallsFrom chordStart s cs → FallsFrom chordStart (n .start) (joinOrOpen cs n)
 join-falls s cs n l h =
-    join-by (Falls chordStart (n .start)) cs n (λ t. falls-up chordStart s _ (changeFirst (joins n) (joined n) cs) l (change-falls n s cs h)) (le-refl (n .start), falls-up chordStart s _ cs l h)
+    join-by (FallsFrom chordStart (n .start)) cs n (λ t. falls-up chordStart s _ (changeFirst (joins n) (joined n) cs) l (change-falls n s cs h)) (le-refl (n .start), falls-up chordStart s _ cs l h)
 
 join-keeps : (a k : ℕ) (cs : List Chord) (n : RawNote) → Some (Has a k) cs → Some (Has a k) (joinOrOpen cs n)
 join-keeps a k cs n s =
@@ -148,19 +148,19 @@ join-has cs n =
     (here (refl, key-own (n .key)))
 
 -- the sorted notes come in order of start
-pub sorted-rises : (g : ℕ) (ns : List RawNote) → Rises noteStart 0 (sortedNotes g ns)
-sorted-rises g ns = rises-by byFallingKey noteStart (λ x y l. omega arith) (sortedNotes g ns) (sort-rises byFallingKey (map (snapped g) ns))
+pub sorted-rises : (g : ℕ) (ns : List RawNote) → Rises noteStart (sortedNotes g ns)
+sorted-rises g ns = rises-by byFallingKey noteStart (λ x y l. omega arith) (sortedNotes g ns) (rises-sort byFallingKey (map (snapped g) ns))
 
 -- the chords so far, the most recent first
 abbrev pub gathered : List RawNote → List Chord
 gathered ns = foldl joinOrOpen [] ns
 
-pub chords-rise : (g : ℕ) (ns : List RawNote) → Rises chordStart 0 (chords g ns)
+pub chords-rise : (g : ℕ) (ns : List RawNote) → Rises chordStart (chords g ns)
 chords-rise g ns =
     let (t, h) =
-    foldl-rises joinOrOpen (Falls chordStart) (λ n. Unit {0}) noteStart (λ s cs n l q h. join-falls s cs n l h) (sortedNotes g ns) 0 []
-    (sorted-rises g ns) (All-all _ (λ n. tt) (sortedNotes g ns)) tt in
-    reverse-rises chordStart t (gathered (sortedNotes g ns)) [] h tt
+    foldl-rises joinOrOpen (FallsFrom chordStart) (λ n. Unit {0}) noteStart (λ s cs n l q h. join-falls s cs n l h) (sortedNotes g ns) 0 []
+    (All-all (λ n. zero-le) (sortedNotes g ns)) (sorted-rises g ns) (All-all (λ n. tt) (sortedNotes g ns)) tt in
+    reverse-rises chordStart t (gathered (sortedNotes g ns)) [] h tt tt
 
 pub chords-whole : (u g : ℕ) (ns : List RawNote) → 0 < g → u ∣ g → All (Whole u (map (snapped g) ns)) (chords g ns)
 chords-whole u g ns p d =
@@ -172,10 +172,10 @@ chords-whole u g ns p d =
 -- each note's key is in a chord of its start
 pub chords-have : (g : ℕ) (ns : List RawNote) → All (λ (n : RawNote). Some (Has (n .start) (n .key)) (chords g ns)) (map (snapped g) ns)
 chords-have g ns =
-    All-map (λ n. Some (Same n) (map (snapped g) ns)) _
-    (λ n s. Some-reverse []
+    All-imp
+    (λ n (s : Some (Same n) (map (snapped g) ns)). Some-reverse []
     (foldl-brings joinOrOpen (λ cs. Unit {0}) (Some (Has (n .start) (n .key))) (Same n) (λ cs m i. tt)
     (λ cs m h. join-keeps _ _ cs m h)
-    (λ cs m i e. Some-map (λ c h. (h .0 ∙ e .start, subst (λ (k : ℕ). HasKey k (c .keys)) (e .key) (h .1))) (join-has cs m))
+    (λ cs m i e. Some-imp (λ c h. (h .0 ∙ e .start, subst (λ (k : ℕ). HasKey k (c .keys)) (e .key) (h .1))) (join-has cs m))
     (Some-sort byFallingKey s) [] tt))
     (map (snapped g) ns) (All-self Same same-self (map (snapped g) ns))

@@ -8,7 +8,7 @@ use lib.Bits.{bitOr, or-shr, or-step, or-add-and, and-le-r}
 use lib.Pow.{pow-pos, pow-lt, pow-add, shl-shr}
 use Rattle.rules.specs.Lists.{bit}
 use Rattle.rules.specs.ProofReader.{HasKey}
-use Rattle.laws.proofs.VoiceLists.{by-le}
+use Rattle.laws.proofs.Order.{by-le}
 
 -- a bit of an or is the larger of the two bits
 pub bit-or : (k m n : ℕ) → bit k (bitOr m n) ≡ max (bit k m) (bit k n)

@@ -1,8 +1,11 @@
 pub mod Arrays
 pub mod BarLaws
 pub mod ChordLaws
+pub mod Exact
 pub mod Filling
+pub mod Folds
 pub mod KeyBits
+pub mod Lists
 pub mod Notes
 pub mod Order
 pub mod Parts
@@ -11,10 +14,7 @@ pub mod Refusals
 pub mod Sort
 pub mod Splits
 pub mod Standards
-pub mod ValueLists
 pub mod Values
 pub mod Verdict
-pub mod VerdictLists
 pub mod VoiceLaws
-pub mod VoiceLists
 pub mod VoiceSteps

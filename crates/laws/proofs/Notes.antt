@@ -1,30 +1,25 @@
 -- Pairing loses and invents no start: each on is pending or in one closed note.
-use Prim.Native.Nat.{ℕ, zero, suc, _+_, _<_, _≤_}
-use mathlib.Core.Bool.{Bool, true, false, cond, not, _&&_, _||_}
-use mathlib.Core.List.{List, [], _∷_, _++_, map, foldl, head?}
+use Prim.Native.Nat.{ℕ, suc, _+_}
+use mathlib.Core.Bool.{Bool, true, false, cond, not}
+use mathlib.Core.List.{List, [], _∷_, foldl, head?}
 use mathlib.Core.Option.{Option, none, some}
 use mathlib.Core.Logic.{inl, inr}
 use mathlib.Core.Path.{_≡_, refl, sym, ap, _∙_}
 use native.Mathlib.Omega.{arith}
-use lib.Dec.{eqb}
 use lib.ListN.{length, length-append, length-map}
-use Rattle.rules.specs.Lists.{keep, any, isEmpty, sortBy}
+use Rattle.rules.specs.Lists.{keep}
 use Rattle.rules.specs.Piece.{Event, isOn, isOff}
-use Rattle.rules.specs.RawNotes.{NoteEvent, noteEvent, noteEvents, RawNote, rawNote, Pairing, sameKey, withoutOldest, takeOff, takeOn, pairOne, noPairs, pairing, byChannel, byStart, rawNotesOf, rawNotes, lastTick, hasNotes}
+use Rattle.rules.specs.RawNotes.{NoteEvent, noteEvents, Pairing, sameKey, withoutOldest, takeOff, takeOn, pairOne, noPairs, byStart, rawNotesOf, rawNotes}
 use Rattle.laws.specs.Notes.{OneNoteEach, HasNotes}
 use Rattle.laws.proofs.Order.{by-bool}
+use Rattle.laws.proofs.Lists.{any-kept, empty-same}
 use Rattle.laws.proofs.Sort.{length-sort}
 
 -- one start goes, where there is one of the off's key
 without-one : (n s : NoteEvent) (ss : List NoteEvent) → head? (keep (sameKey n) ss) ≡ some s → length ss ≡ suc (length (withoutOldest n ss))
 unfolding keep withoutOldest
 without-one n s [] h = let z : _≡_ {A = ℕ} 0 1 = cc in absurd (omega arith)
-without-one n s (x ∷ ss) h = go (sameKey n x) refl (λ k. without-one n s ss k)
-  where
-    go : (t : Bool) → sameKey n x ≡ t → (head? (keep (sameKey n) ss) ≡ some s → length ss ≡ suc (length (withoutOldest n ss)))
-        → length (x ∷ ss) ≡ suc (length (withoutOldest n (x ∷ ss)))
-    go true e rest = rw e
-    go false e rest = rw e (ap suc (rest (rw e at h)))
+without-one n s (x ∷ ss) h = elim (by-bool (sameKey n x)) [ inl t ↦ rw t | inr t ↦ rw t (ap suc (without-one n s ss (rw t at h))) ]
 
 -- how many notes a pairing holds, closed or pending
 held : Pairing → ℕ
@@ -37,15 +32,13 @@ off-holds n x (some s) h =
     let l = without-one n s (x .pending) h in
     simp length-append (omega arith)
 
-one-by : (x : Pairing) (n : NoteEvent) (t : Bool)
-    → held (cond t (takeOn n x) (takeOff n x (head? (keep (sameKey n) (x .pending))))) ≡ held x + cond t 1 0
-unfolding held
-one-by x n true = simp length-append (omega arith)
-one-by x n false = let h = off-holds n x (head? (keep (sameKey n) (x .pending))) refl in omega arith
-
 one-holds : (x : Pairing) (n : NoteEvent) → held (pairOne x n) ≡ held x + cond (n .on) 1 0
-unfolding pairOne
-one-holds x n = one-by x n (n .on)
+unfolding pairOne held
+one-holds x n = go (n .on)
+  where
+    go : (t : Bool) → held (cond t (takeOn n x) (takeOff n x (head? (keep (sameKey n) (x .pending))))) ≡ held x + cond t 1 0
+    go true = simp length-append (omega arith)
+    go false = omega (arith, off-holds n x (head? (keep (sameKey n) (x .pending))) refl)
 
 -- the ons of note events
 ons : List NoteEvent → ℕ
@@ -77,18 +70,6 @@ one-note-each es =
     length-sort byStart _
     ∙ simp (length-append, length-map, length-sort)
     (omega (arith, pairs-hold noPairs (noteEvents es), track-ons es))
-
--- a list has an element that passes exactly if those that pass are some
-any-kept : {A : Type 0} (f : A → Bool) (xs : List A) → any f xs ≡ not (isEmpty (keep f xs))
-unfolding any keep
-any-kept f [] = refl
-any-kept f (x ∷ xs) = elim (by-bool (f x)) [ inl t ↦ rw t | inr t ↦ rw t (any-kept f xs) ]
-
-empty-same : {A B : Type 0} (xs : List A) (ys : List B) → length xs ≡ length ys → isEmpty xs ≡ isEmpty ys
-empty-same [] [] h = refl
-empty-same [] (y ∷ ys) h = absurd (omega arith)
-empty-same (x ∷ xs) [] h = absurd (omega arith)
-empty-same (x ∷ xs) (y ∷ ys) h = refl
 
 pub has-notes : HasNotes
 has-notes es =

@@ -10,6 +10,7 @@ use native.Mathlib.Omega.{arith}
 use borrow.Author.Tests.{ltb-true, lt-ltb, leb-true, le-leb, eqb-true, eq-eqb}
 use Rattle.rules.specs.Lists.{any, every, below, All, Some, here, later}
 use Rattle.laws.specs.Says.{Says}
+use Rattle.laws.proofs.Lists.{Some-cases}
 
 -- ---- tests of one thing
 
@@ -88,11 +89,7 @@ module _ {A : Type 0} {f : A → Bool} {P : A → Type 0} (says : (x : A) → Sa
   pub says-any : (xs : List A) → Says (any f xs) (Some P xs)
   unfolding any
   says-any [] = (λ t. absurd (false≢true t), λ s. elim s [ ])
-  says-any (x ∷ xs) = says-as (says-or (says x) (says-any xs)) (λ y. elim y [ inl p ↦ here p | inr s ↦ later s ], back)
-    where
-      back : Some P (x ∷ xs) → P x ⊎ Some P xs
-      back (here p) = inl p
-      back (later s) = inr s
+  says-any (x ∷ xs) = says-as (says-or (says x) (says-any xs)) (⊎-elim here later, Some-cases)
 
 module _ {f : ℕ → Bool} {P : ℕ → Type 0} (says : (k : ℕ) → Says (f k) (P k)) where
   pub says-below : (n : ℕ) → Says (below n f) ((k : ℕ) → k < n → P k)

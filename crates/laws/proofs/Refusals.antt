@@ -1,18 +1,19 @@
 -- The first refusal that applies: how lists of refusals are joined, and what the numbers 1 to 5 leave known of a piece.
-use Prim.Native.Nat.{ℕ, zero, suc, _+_, _*_, _≤_, _<_, _^_}
-use mathlib.Core.Bool.{Bool, true, false, not, cond, and-eq-true-iff}
+use Prim.Native.Nat.{ℕ, suc, _+_, _*_, _≤_, _<_, _^_}
+use mathlib.Core.Bool.{true, and-eq-true-iff}
+use mathlib.Core.Logic.{inl, inr}
 use mathlib.Core.List.{List, [], _∷_, _++_}
-use mathlib.Core.Logic.{_⊎_, inl, inr}
-use mathlib.Core.Path.{_≡_, refl, sym, ap, _∙_, subst}
+use mathlib.Core.Path.{_≡_, refl, ap}
 use native.Mathlib.Nat.{pos-of-ne-zero}
 use native.Mathlib.Omega.{arith}
 use borrow.Author.Tests.{ltb-false, leb-true, eqb-true, eqb-false, not-false}
-use lib.Dec.{eqb, ltb}
 use lib.ListN.{length, take, drop, length-take, length-drop}
 use Rattle.rules.specs.Lists.{All, sum}
-use Rattle.rules.specs.Piece.{Piece, Event, largestSize, division, trackCount, eventCounts, sizesAgree, wellFormed, timecode, ticksPerQuarter, timed, cutTracks, tracks}
-use Rattle.rules.specs.Refusals.{Result, refused, given, Refusal, refuse, unless, eventRefusals, pieceRefusals, mostEvents, largestDelta}
+use Rattle.rules.specs.Piece.{Piece, Event, largestSize, division, trackCount, eventCounts, sizesAgree, wellFormed, timecode, timed, cutTracks, tracks}
+use Rattle.rules.specs.Refusals.{refused, given, Refusal, unless, firstNumber, eventRefusals, pieceRefusals, mostEvents, largestDelta}
 use Rattle.laws.specs.Admitted.{Passes, Admitted, TicksBelow, TicksStayBelow, TicksPerQuarterPositive}
+use Rattle.laws.proofs.Order.{by-bool}
+use Rattle.laws.proofs.Lists.{All-take, All-drop}
 
 module _ {A : Type 0} where
   pub passes-given : (rs : List Refusal) (a : A) → Passes rs → unless rs a ≡ given a
@@ -29,34 +30,47 @@ module _ {A : Type 0} where
   pub unless-agree : (rs : List Refusal) (a b : A) → (Passes rs → a ≡ b) → unless rs a ≡ unless rs b
   unfolding unless
   unless-agree [] a b h = ap given (h tt)
-  unless-agree (r ∷ rs) a b h = go (λ k. unless-agree rs a b k) (r .applies) refl
-    where
-      go : ((Passes rs → a ≡ b) → unless rs a ≡ unless rs b) → (t : Bool) → r .applies ≡ t → unless (r ∷ rs) a ≡ unless (r ∷ rs) b
-      go rest true e = rw e
-      go rest false e = rw e (rest (λ k. h (e, k)))
+  unless-agree (r ∷ rs) a b h =
+      elim (by-bool (r .applies)) [ inl t ↦ rw t | inr t ↦ rw t (unless-agree rs a b (λ k. h (t, k))) ]
 
-pub passes-left : (rs ss : List Refusal) → Passes (rs ++ ss) → Passes rs
-passes-left [] ss h = tt
-passes-left (r ∷ rs) ss h = (h .0, passes-left rs ss (h .1))
+-- ---- the first number
 
-pub passes-right : (rs ss : List Refusal) → Passes (rs ++ ss) → Passes ss
-passes-right [] ss h = h
-passes-right (r ∷ rs) ss h = passes-right rs ss (h .1)
+-- every refusal of a list has a number of its own, not 0
+abbrev pub Numbered : List Refusal → Type 0
+Numbered rs = All (λ (r : Refusal). 0 < r .number) rs
+
+pub number-none : (rs : List Refusal) → Passes rs → firstNumber rs ≡ 0
+unfolding firstNumber
+number-none [] h = refl
+number-none (r ∷ rs) h = rw (h .0) (number-none rs (h .1))
+
+pub number-passes : (rs : List Refusal) → Numbered rs → firstNumber rs ≡ 0 → Passes rs
+unfolding firstNumber
+number-passes [] n h = tt
+number-passes (r ∷ rs) n h =
+    elim (by-bool (r .applies)) [
+      | inl t ↦ let z : r .number ≡ 0 = (rw t at h) in absurd (omega (arith, n .0))
+      | inr t ↦ (t, number-passes rs (n .1) (rw t at h))
+    ]
+
+-- a list whose first number is not 0 gives it, whatever follows
+pub number-refused : {A : Type 0} (rs ss : List Refusal) (a : A) → 0 < firstNumber rs → unless (rs ++ ss) a ≡ refused (firstNumber rs)
+unfolding firstNumber unless
+number-refused [] ss a h = absurd (omega arith)
+number-refused (r ∷ rs) ss a h =
+    elim (by-bool (r .applies)) [ inl t ↦ rw t | inr t ↦ rw t (number-refused rs ss a (rw t at h)) ]
 
 -- ---- numbers 1 to 5
 
-event-deltas : (ds ws : List ℕ) → length ds ≡ length ws → Passes (eventRefusals ds ws) → All (λ d. d ≤ largestDelta) ds
+events-pass : (ds ws : List ℕ) → length ds ≡ length ws → Passes (eventRefusals ds ws)
+    → All (λ d. d ≤ largestDelta) ds × All (λ w. wellFormed w ≡ true) ws
 unfolding eventRefusals
-event-deltas [] ws l h = tt
-event-deltas (d ∷ ds) [] l h = absurd (omega arith)
-event-deltas (d ∷ ds) (w ∷ ws) l h = (ltb-false largestDelta d (h .0), event-deltas ds ws (omega arith) (h .1 .1))
-
-event-words : (ds ws : List ℕ) → length ds ≡ length ws → Passes (eventRefusals ds ws) → All (λ w. wellFormed w ≡ true) ws
-unfolding eventRefusals
-event-words [] [] l h = tt
-event-words [] (w ∷ ws) l h = absurd (omega arith)
-event-words (d ∷ ds) [] l h = absurd (omega arith)
-event-words (d ∷ ds) (w ∷ ws) l h = (not-false (wellFormed w) (h .1 .0), event-words ds ws (omega arith) (h .1 .1))
+events-pass [] [] l h = (tt, tt)
+events-pass [] (w ∷ ws) l h = absurd (omega arith)
+events-pass (d ∷ ds) [] l h = absurd (omega arith)
+events-pass (d ∷ ds) (w ∷ ws) l h =
+    let (p, q) = events-pass ds ws (omega arith) (h .1 .1) in
+    ((ltb-false largestDelta d (h .0), p), (not-false (wellFormed w) (h .1 .0), q))
 
 -- what sizes that agree say
 pub record Agree (x : Piece) : Type 0 where
@@ -85,33 +99,19 @@ pub admitted : (x : Piece) → Passes (pieceRefusals x) → Admitted x
 unfolding pieceRefusals
 admitted x h =
     let agree = sizes-agree x (not-false (sizesAgree x) (h .0)) in
-    let none-zero = eqb-false (division x) 0 (h .1 .0) in
+    let events = events-pass (x .deltas) (x .words) (omega arith) (h .1 .1 .1) in
     record {
       sizes = not-false (sizesAgree x) (h .0);
-      divided = pos-of-ne-zero none-zero;
+      divided = pos-of-ne-zero (eqb-false (division x) 0 (h .1 .0));
       events = ltb-false mostEvents (length (x .deltas)) (h .1 .1 .0);
-      deltas = event-deltas (x .deltas) (x .words) (omega arith) (h .1 .1 .1);
-      words = event-words (x .deltas) (x .words) (omega arith) (h .1 .1 .1);
+      deltas = events .0;
+      words = events .1;
     }
 
 pub ticks-per-quarter-positive : TicksPerQuarterPositive
-ticks-per-quarter-positive x h = go (timecode x)
-  where
-    go : (t : Bool) → 0 < cond t 480 (division x)
-    go true = omega arith
-    go false = h .divided
+ticks-per-quarter-positive x h = elim (by-bool (timecode x)) [ inl t ↦ rw t (omega arith) | inr t ↦ rw t (h .divided) ]
 
 -- ---- ticks
-
-All-take : {A : Type 0} (P : A → Type 0) (n : ℕ) (xs : List A) → All P xs → All P (take n xs)
-All-take P zero xs h = tt
-All-take P (suc n) [] h = tt
-All-take P (suc n) (x ∷ xs) h = (h .0, All-take P n xs (h .1))
-
-All-drop : {A : Type 0} (P : A → Type 0) (n : ℕ) (xs : List A) → All P xs → All P (drop n xs)
-All-drop P zero xs h = h
-All-drop P (suc n) [] h = tt
-All-drop P (suc n) (x ∷ xs) h = All-drop P n xs (h .1)
 
 -- the ticks of events whose deltas are small, from tick t on
 timed-below : (top n t : ℕ) (ds ws : List ℕ) → t + length ds * largestDelta < top → All (λ d. d ≤ largestDelta) ds

@@ -12,9 +12,10 @@ use lib.Dec.{leb}
 use lib.ListN.{replicate}
 use borrow.Author.Tests.{leb-true, leb-false}
 use Rattle.rules.specs.Lists.{keep, All, sum}
-use Rattle.rules.specs.Values.{Value, value, values, ticksOf, longest, Split, splitIn, splitSpan, staffCodes, smallest}
+use Rattle.rules.specs.Values.{Value, values, ticksOf, longest, Split, splitIn, splitSpan, staffCodes, smallest}
 use Rattle.laws.specs.Ladder.{ladder, split, left, taken, halved, StaffPiece}
-use Rattle.laws.proofs.ValueLists.{by-bool, All-imp, All-keep, All-flatMap, first-kept, sum-append}
+use Rattle.laws.proofs.Order.{by-bool}
+use Rattle.laws.proofs.Lists.{All-imp, All-keep, All-flatMap, first-kept, sum-append}
 use Rattle.laws.proofs.Values.{by-even, ladder-even, ladder-odd, values-literal, values-long, halved-even, halved-zero, halved-odd, halved-divides, half-divides, smallest-last}
 
 -- Loop equations: a value that fits is taken, one that does not is passed over.
@@ -81,7 +82,7 @@ divided-first (v ∷ vs) t h =
 -- The literal split, of t or more turns, is the one by division.
 module _ (p : ℕ) (some-ticks : 0 < p) where
   first-long : (t : ℕ) (v : Value) → longest p t ≡ some v → 0 < v .ticks
-  first-long t v e = first-kept (λ (w : Value). 0 < w .ticks) (λ (w : Value). leb (w .ticks) t) (values p) v (values-long p some-ticks) e .0
+  first-long t v e = first-kept (λ (w : Value). 0 < w .ticks) (λ (w : Value). leb (w .ticks) t) (values p) v (values-long p some-ticks) e
 
   splitIn-divided : (n t : ℕ) → t ≤ n → splitIn p n t ≡ divided (values p) t
   unfolding splitIn
@@ -174,8 +175,8 @@ split-total p t h d = omega (arith, split-whole p t h, split-even p t h d)
 pub values-staff : (p : ℕ) → All (StaffPiece p) (values p)
 unfolding values
 values-staff p =
-    All-imp _ _ (λ v k. record { code = k .0 .0; dots = k .0 .1; whole = k .1; ticks = k .0 .2 }) (values p)
-    (All-keep Listed _ _ (All-flatMap Listed (λ c. c ≤ 8) _ (λ c h. ((h, omega arith, refl), ((h, omega arith, refl), tt))) staffCodes (omega arith)))
+    All-imp (λ v k. record { code = k .0 .0; dots = k .0 .1; whole = k .1; ticks = k .0 .2 }) (values p)
+    (All-keep Listed _ _ (All-flatMap Listed _ (λ c (h : c ≤ 8). ((h, omega arith, refl), ((h, omega arith, refl), tt))) staffCodes (omega arith)))
   where
     Listed : Value → Type 0
     Listed v = (v .code ≤ 8) × (v .dots ≤ 1) × (v .ticks ≡ ticksOf p (v .code) (v .dots))
@@ -190,7 +191,7 @@ splitIn-staff p (suc n) t = go (splitIn-staff p n) (longest p t) refl
     go more none e = rw (e, splitIn) tt
     go more (some v) e =
         rw (e, splitIn)
-        (first-kept (StaffPiece p) (λ (w : Value). leb (w .ticks) t) (values p) v (values-staff p) e .0, more (t - v .ticks))
+        (first-kept (StaffPiece p) (λ (w : Value). leb (w .ticks) t) (values p) v (values-staff p) e, more (t - v .ticks))
 
 pub split-staff : (p t : ℕ) → All (StaffPiece p) (splitSpan p t .pieces)
 split-staff p t = splitIn-staff p t t

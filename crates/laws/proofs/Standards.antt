@@ -1,17 +1,17 @@
 -- Document 01's table of kinds reads each event as the standards mean it.
-use Prim.Native.Nat.{ℕ, zero, suc, _+_, _*_, _/_, _%_, _^_}
-use mathlib.Core.Bool.{Bool, true, false, not, _&&_, _||_, false≢true, and-eq-true-iff}
-use mathlib.Core.Path.{_≡_, refl, sym, ap, _∙_, subst}
+use Prim.Native.Nat.{ℕ, zero, suc, _+_, _*_}
+use mathlib.Core.Bool.{true, not, _&&_, false≢true, and-eq-true-iff}
+use mathlib.Core.Path.{_≡_, refl, ap, _∙_}
 use mathlib.Core.Logic.{_⊎_, inl, inr}
 use mathlib.Core.List.{[], _∷_}
-use native.Mathlib.Nat.{mul-comm, add-comm}
 use native.Mathlib.Omega.{arith}
-use borrow.Author.Tests.{eqb-true, eqb-false}
+use borrow.Author.Tests.{eqb-true}
 use lib.Dec.{eqb}
 use lib.IntN.{subℕ}
-use Rattle.rules.specs.Piece.{kindOf, byteA, byteB, byteC, isKind, isOn, isOff, tempoValue}
-use Rattle.rules.specs.Standard.{Meaning, noteOff, noteOn, setTempo, pitchBend, channelVoice, noteOnOrOff, bigEndian}
+use Rattle.rules.specs.Piece.{kindOf, byteA, byteB, byteC, isKind, tempoValue}
+use Rattle.rules.specs.Standard.{noteOff, noteOn, setTempo, pitchBend, channelVoice, noteOnOrOff, bigEndian}
 use Rattle.laws.specs.Standards.{ReadAsStandard, asMessage}
+use Rattle.laws.proofs.Order.{by-or}
 
 -- a message of a known kind
 message : (w k : ℕ) → isKind k w ≡ true → asMessage w ≡ channelVoice k (byteA w) (byteB w) (byteC w)
@@ -40,10 +40,6 @@ off-by w (inl h) = message w 8 h
 off-by w (inr h) =
     let k = and-eq-true-iff (isKind 9 w) (eqb (byteC w) 0) .0 h in
     message w 9 (k .0) ∙ released (byteA w) (byteB w) (byteC w) (k .1)
-
-by-or : (a b : Bool) → a || b ≡ true → (a ≡ true) ⊎ (b ≡ true)
-by-or true b h = inl refl
-by-or false b h = inr h
 
 pub read-as-standard : (w : ℕ) → ReadAsStandard w
 read-as-standard w =

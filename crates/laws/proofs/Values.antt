@@ -7,17 +7,17 @@ use mathlib.Core.Path.{_≡_, refl, sym, ap, _∙_, subst}
 use native.Mathlib.Nat.{add-zero, pow-succ', div-one, div-div-eq-div-mul, div-eq-of-eq-mul-left, mul-mod-left, mul-mod-right, dvd-refl, dvd-trans, dvd-mul-right, dvd-of-mod-eq-zero, mod-eq-zero-of-dvd, dvd-of-mul-dvd-mul-right, pos-of-dvd-of-pos}
 use native.Mathlib.Numerals.{add-one}
 use native.Mathlib.Omega.{arith}
-use lib.Dec.{eqb}
 use lib.Pow.{pow-pos, pow-add}
-use borrow.Author.Tests.{eq-eqb, ne-eqb, eqb-true, eqb-false}
+use borrow.Author.Tests.{eq-eqb, ne-eqb}
 use Rattle.rules.specs.Lists.{keep, All}
 use Rattle.rules.specs.Values.{Value, value, values, isWhole, twos, smallest}
 use Rattle.laws.specs.Ladder.{plain, withDot, ladder, ladderOf, Falls, halved}
-use Rattle.laws.proofs.ValueLists.{by-bool}
+use Rattle.laws.specs.Sort.{count}
+use Rattle.laws.proofs.Order.{by-eq}
 
 -- cases on l being even
 pub by-even : (l : ℕ) → (l % 2 ≡ 0) ⊎ (l % 2 ≡ 0 → ⊥)
-by-even l = elim (by-bool (eqb (l % 2) 0)) [ inl t ↦ inl (eqb-true (l % 2) 0 t) | inr t ↦ inr (eqb-false (l % 2) 0 t) ]
+by-even l = by-eq (l % 2) 0
 
 -- One rung of the ladder.
 module _ (n c l : ℕ) where
@@ -43,14 +43,9 @@ unfolding ladder
 ladder-none zero c l h = refl
 ladder-none (suc n) c l h = absurd (omega arith)
 
--- n numbers from c on
-countFrom : ℕ → ℕ → List ℕ
-countFrom zero c = []
-countFrom (suc n) c = c ∷ countFrom n (suc c)
-
 -- the values of n codes from c on, as the rules list them
 listed : ℕ → ℕ → ℕ → List Value
-listed p n c = keep (λ (v : Value). isWhole p (v .code) (v .dots)) (flatMap (λ d. value p d 1 ∷ value p d 0 ∷ []) (countFrom n c))
+listed p n c = keep (λ (v : Value). isWhole p (v .code) (v .dots)) (flatMap (λ d. value p d 1 ∷ value p d 0 ∷ []) (count c n))
 
 -- an odd multiple of a power of 2 is no multiple of a higher one
 odd-part : (m c k : ℕ) → c < k → (m % 2 ≡ 0 → ⊥) → m * 2 ^ c % 2 ^ k ≡ 0 → ⊥
@@ -99,13 +94,13 @@ module _ (p c l : ℕ) (long : 16 * p ≡ l * 2 ^ c) where
         rw q (ne-eqb _ _ (odd-part l c (k + 0) (omega arith) odd))
 
     listed-none : (n k : ℕ) → c < k → listed p n k ≡ []
-    unfolding listed countFrom flatMap keep
+    unfolding listed count flatMap keep
     listed-none zero k h = refl
     listed-none (suc n) k h =
         let i : c ≤ k = omega arith in rw (part-dotted k i, part-plain k h) (listed-none n (suc k) (omega arith))
 
 listed-ladder : (p n c l : ℕ) → 16 * p ≡ l * 2 ^ c → listed p n c ≡ ladder n c l
-unfolding listed countFrom flatMap keep ladder
+unfolding listed count flatMap keep ladder
 listed-ladder p zero c l long = refl
 listed-ladder p (suc n) c l long =
     elim (by-even l) [
@@ -118,7 +113,7 @@ listed-ladder p (suc n) c l long =
     ]
 
 pub values-literal : (p : ℕ) → values p ≡ ladderOf p
-unfolding values listed countFrom
+unfolding values listed count
 values-literal p = listed-ladder p 9 0 (16 * p) (omega arith)
 
 -- The values fall, and each has ticks.

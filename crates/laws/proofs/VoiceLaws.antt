@@ -1,5 +1,5 @@
 -- What holds of a part's four voices: their chords follow one another, with keys and ends that are the notes', and each note is in one.
-use Prim.Native.Nat.{ℕ, _≤_, _<_, _∣_}
+use Prim.Native.Nat.{ℕ, _≤_, _<_, _∣_, zero-le}
 use mathlib.Core.Bool.{true, false, false≢true}
 use mathlib.Core.List.{List, [], _∷_, map, foldl, reverse, reverseAux}
 use mathlib.Core.Logic.{_⊎_, inl, inr}
@@ -7,14 +7,17 @@ use mathlib.Core.Path.{_≡_, refl, sym, _∙_}
 use native.Mathlib.Nat.{le-refl, dvd-refl}
 use native.Mathlib.Omega.{arith}
 use lib.ListN.{length, length-set, length-map}
-use borrow.Author.Tests.{eqb-true, eqb-false, leb-true, le-leb}
+use borrow.Author.Tests.{eqb-true, eqb-false, leb-true}
 use Rattle.rules.specs.Lists.{any, changeFirst, All, Some, here, later}
 use Rattle.rules.specs.RawNotes.{RawNote}
 use Rattle.rules.specs.Grid.{snapped}
 use Rattle.rules.specs.ProofReader.{HasKey}
 use Rattle.rules.specs.Voices.{Chord, Voice, chords, isFree, startsWith, voiceEnd, endsEarliest, Choice, free, together, cut, choose, giveKeys, cutTo, placed, place, noVoices, voices}
 use Rattle.laws.specs.Lines.{Sound, Line, EndsNoted, Closed}
-use Rattle.laws.proofs.VoiceLists.{by-bool, All-map, All-all, All-both, All-maps, All-change, All-reverse, Some-map, Some-maps, Some-reverse, Some-change, Some-changed, any-some, any-none, every-all, set-position, least, foldl-keeps, foldl-rises, foldl-brings}
+use Rattle.laws.proofs.Order.{by-bool}
+use Rattle.laws.proofs.Lists.{All-imp, All-all, All-map, All-both, Some-imp, Some-map, any-none, least}
+use Rattle.laws.proofs.Folds.{All-change, All-reverse, Some-reverse, Some-change, Some-changed, set-position, foldl-keeps, foldl-rises, foldl-brings}
+use Rattle.laws.proofs.Reflection.{says-le, says-every, says-any}
 use Rattle.laws.proofs.KeyBits.{key-left, key-right}
 use Rattle.laws.proofs.ChordLaws.{Good, Whole, Has, chordStart, more-keys, chords-rise, chords-whole, chords-have}
 
@@ -50,10 +53,9 @@ place-by P vs c f t k =
 pub some-earliest : (vs : List Voice) → 0 < length vs → any (endsEarliest vs) vs ≡ true
 some-earliest [] h = absurd (omega arith)
 some-earliest (v ∷ vs) h =
-    let (b, l) = least voiceEnd v vs in
-    any-some
-    (Some-map (λ w e. every-all _ (v ∷ vs) (All-map _ _ (λ x o. le-leb (voiceEnd w) (voiceEnd x) (omega arith)) (v ∷ vs) (l .low)))
-    (l .met))
+    let (b, low, met) = least voiceEnd v vs in
+    says-any (λ w. says-every (λ x. says-le (voiceEnd w) (voiceEnd x)) (v ∷ vs)) (v ∷ vs) .1
+    (Some-imp (λ w e. All-imp (λ x o. omega arith) (v ∷ vs) low) met)
 
 -- ---- a voice so far
 
@@ -82,7 +84,7 @@ module _ (u : ℕ) (ns : List RawNote) where
     give s o (l ∷ v) t h = (
       omega arith,
       more-keys u ns l (c .keys) (l .unpitched)
-          (λ k b. Some-map (λ n e. (e .0 ∙ sym (eqb-true (l .start) (c .start) t), e .1)) (w .good .meant k b)) (h .1),
+          (λ k b. Some-imp (λ n e. (e .0 ∙ sym (eqb-true (l .start) (c .start) t), e .1)) (w .good .meant k b)) (h .1),
       h .2,
     )
 
@@ -170,7 +172,7 @@ spread cs = foldl place noVoices cs
 
 pub spread-length : (cs : List Chord) → length (spread cs) ≡ 4
 spread-length cs =
-    foldl-keeps place (λ vs. length vs ≡ 4) (λ c. Unit {0}) (λ vs c u e. place-length vs c ∙ e) cs noVoices (All-all _ (λ c. tt) cs) refl
+    foldl-keeps place (λ vs. length vs ≡ 4) (λ c. Unit {0}) (λ vs c u e. place-length vs c ∙ e) cs noVoices (All-all (λ c. tt) cs) refl
 
 pub voices-four : (g : ℕ) (ns : List RawNote) → length (voices g ns) ≡ 4
 unfolding voices
@@ -182,9 +184,9 @@ voices-by : (u g : ℕ) (ns : List RawNote) → 0 < g → u ∣ g → (P : List 
 unfolding voices
 voices-by u g ns p d P f =
     let (s, h) =
-    foldl-rises place (λ s. All (SoFar u _ s)) (Whole u _) chordStart (place-so-far u _) (chords g ns) 0 noVoices (chords-rise g ns)
+    foldl-rises place (λ s. All (SoFar u _ s)) (Whole u _) chordStart (place-so-far u _) (chords g ns) 0 noVoices (All-all (λ c. zero-le) (chords g ns)) (chords-rise g ns)
     (chords-whole u g ns p d) (tt, (tt, (tt, (tt, tt)))) in
-    All-maps P reverse (spread (chords g ns)) (All-map (SoFar u (map (snapped g) ns) s) _ (f s) (spread (chords g ns)) h)
+    All-map P reverse (f s) (spread (chords g ns)) h
 
 -- The chords of a voice follow one another, with a length and a key, on multiples of whatever the grid is a multiple of.
 pub voices-line : (u g : ℕ) (ns : List RawNote) → 0 < g → u ∣ g → All (Line u 0) (voices g ns)
@@ -196,11 +198,11 @@ module _ (g : ℕ) (ns : List RawNote) (some-grid : 0 < g) where
       (map (snapped g) ns)
   unfolding voices
   voices-found =
-      All-map (λ n. Some (Has (n .start) (n .key)) (chords g ns)) _
-      (λ n s. Some-maps _ reverse
-      (Some-map (λ v t. Some-reverse [] t)
+      All-imp
+      (λ n (s : Some (Has (n .start) (n .key)) (chords g ns)).
+      Some-map _ reverse (λ v t. Some-reverse [] t)
       (foldl-brings place (λ vs. length vs ≡ 4) (Some (Some (Has (n .start) (n .key)))) _ (λ vs c e. place-length vs c ∙ e)
-      (place-keeps _ _) (λ vs c e h. place-has _ _ vs c (omega arith) h) s noVoices refl)))
+      (place-keeps _ _) (λ vs c e h. place-has _ _ vs c (omega arith) h) s noVoices refl))
       (map (snapped g) ns) (chords-have g ns)
 
   -- Each key of a chord is that of a note of its start.
@@ -208,7 +210,7 @@ module _ (g : ℕ) (ns : List RawNote) (some-grid : 0 < g) where
       (All (λ (c : Chord). (k : ℕ) → HasKey k (c .keys) → Some (λ (n : RawNote). (n .start ≡ c .start) × (n .key ≡ k)) (map (snapped g) ns)))
       (voices g ns)
   voices-meant =
-      voices-by g g ns some-grid (dvd-refl g) _ (λ s v h. All-map _ _ (λ c w. w .meant) (reverse v) (so-far-good g _ s v h))
+      voices-by g g ns some-grid (dvd-refl g) _ (λ s v h. All-imp (λ c w. w .meant) (reverse v) (so-far-good g _ s v h))
 
   -- Each chord ends with a note of its start, or where its voice's next chord starts.
   pub voices-closed : All (Closed (map (snapped g) ns)) (voices g ns)

@@ -1,5 +1,5 @@
 -- What a program that makes the voices goes by: how far back a note looks for its chord, and how long a cut chord stays.
-use Prim.Native.Nat.{ℕ, _+_, _-_, _≤_, _<_, _∣_}
+use Prim.Native.Nat.{ℕ, _+_, _-_, _≤_, _<_, _∣_, zero-le}
 use mathlib.Core.Bool.{true, false, cond}
 use mathlib.Core.List.{List, [], _∷_, _++_, map}
 use mathlib.Core.Logic.{inl, inr}
@@ -13,23 +13,26 @@ use Rattle.rules.specs.Lists.{any, changeFirst, All}
 use Rattle.rules.specs.RawNotes.{RawNote}
 use Rattle.rules.specs.Grid.{snapped}
 use Rattle.rules.specs.Voices.{Chord, Voice, opened, joins, joined, joinOrOpen, chords, startsWith, place, noVoices}
-use Rattle.laws.proofs.VoiceLists.{by-bool, Rises, Falls, All-map, All-all, All-both, any-none, any-after, change-after, change-none, falls-up, falls-after, foldl-before}
+use Rattle.laws.specs.Sort.{Rises, FallsFrom}
+use Rattle.laws.proofs.Order.{by-bool}
+use Rattle.laws.proofs.Lists.{All-imp, All-all, All-both, any-none, any-after}
+use Rattle.laws.proofs.Folds.{change-after, change-none, falls-up, falls-after, foldl-before}
 use Rattle.laws.proofs.ChordLaws.{Whole, chordStart, noteStart, gathered, join-falls, chords-rise, chords-whole}
 use Rattle.laws.proofs.VoiceLaws.{SoFar, place-so-far, spread}
 
 -- ---- joining
 
 -- before each note the chords come in order, the most recent first, and none starts after the note
-pub gathered-falls : (xs : List RawNote) (n : RawNote) (ys : List RawNote) → Rises noteStart 0 (xs ++ (n ∷ ys))
-    → Falls chordStart (n .start) (gathered xs)
+pub gathered-falls : (xs : List RawNote) (n : RawNote) (ys : List RawNote) → Rises noteStart (xs ++ (n ∷ ys))
+    → FallsFrom chordStart (n .start) (gathered xs)
 gathered-falls xs n ys r =
     let (t, l, q, h) =
-    foldl-before joinOrOpen (Falls chordStart) (λ m. Unit {0}) noteStart (λ s cs m l q h. join-falls s cs m l h) xs n ys 0 [] r
-    (All-all _ (λ m. tt) (xs ++ (n ∷ ys))) tt in
+    foldl-before joinOrOpen (FallsFrom chordStart) (λ m. Unit {0}) noteStart (λ s cs m l q h. join-falls s cs m l h) xs n ys 0 []
+    (All-all (λ m. zero-le) (xs ++ (n ∷ ys))) r (All-all (λ m. tt) (xs ++ (n ∷ ys))) tt in
     falls-up chordStart t (n .start) (gathered xs) l h
 
 -- no chord joins that starts earlier
-far-joins : (n : RawNote) (a : ℕ) (cs : List Chord) → a < n .start → Falls chordStart a cs → any (joins n) cs ≡ false
+far-joins : (n : RawNote) (a : ℕ) (cs : List Chord) → a < n .start → FallsFrom chordStart a cs → any (joins n) cs ≡ false
 unfolding any
 far-joins n a [] l h = refl
 far-joins n a (c ∷ cs) l h = rw (ne-eqb (c .start) (n .start) (omega arith)) (far-joins n (c .start) cs (omega arith) (h .1))
@@ -40,7 +43,7 @@ Past a [] = Unit {0}
 Past a (c ∷ cs) = c .start ≡ a → ⊥
 
 -- where a chord has another start, no chord from there on joins
-pub past-joins : (n : RawNote) (cs : List Chord) → Falls chordStart (n .start) cs → Past (n .start) cs → any (joins n) cs ≡ false
+pub past-joins : (n : RawNote) (cs : List Chord) → FallsFrom chordStart (n .start) cs → Past (n .start) cs → any (joins n) cs ≡ false
 unfolding any
 past-joins n [] h p = refl
 past-joins n (c ∷ cs) h p = rw (ne-eqb (c .start) (n .start) p) (far-joins n (c .start) cs (omega arith) (h .1))
@@ -52,7 +55,7 @@ unfolding joinOrOpen any changeFirst
 join-at n xs c ys e t = rw (any-after (joins n) xs (c ∷ ys) e, change-after (joins n) (joined n) xs (c ∷ ys) e, t)
 
 -- it has come to a chord of another start, or to the end
-pub join-none : (n : RawNote) (xs cs : List Chord) → any (joins n) xs ≡ false → Falls chordStart (n .start) (xs ++ cs) → Past (n .start) cs
+pub join-none : (n : RawNote) (xs cs : List Chord) → any (joins n) xs ≡ false → FallsFrom chordStart (n .start) (xs ++ cs) → Past (n .start) cs
     → joinOrOpen (xs ++ cs) n ≡ opened n ∷ (xs ++ cs)
 unfolding joinOrOpen
 join-none n xs cs e h p =
@@ -70,7 +73,7 @@ near-split a (c ∷ cs) =
     elim (by-bool (eqb (c .start) a)) [ inl t ↦ rw t (ap (λ (ds : List Chord). c ∷ ds) (near-split a cs)) | inr t ↦ rw t ]
 
 -- only the leading chords of the note's start are asked
-pub any-near : (n : RawNote) (cs : List Chord) → Falls chordStart (n .start) cs → any (joins n) cs ≡ any (joins n) (near (n .start) cs)
+pub any-near : (n : RawNote) (cs : List Chord) → FallsFrom chordStart (n .start) cs → any (joins n) cs ≡ any (joins n) (near (n .start) cs)
 unfolding any near
 any-near n [] h = refl
 any-near n (c ∷ cs) h =
@@ -79,7 +82,7 @@ any-near n (c ∷ cs) h =
       | inr t ↦ rw t (far-joins n (c .start) cs (omega (arith, eqb-false (c .start) (n .start) t)) (h .1))
     ]
 
-pub change-near : (n : RawNote) (f : Chord → Chord) (cs : List Chord) → Falls chordStart (n .start) cs
+pub change-near : (n : RawNote) (f : Chord → Chord) (cs : List Chord) → FallsFrom chordStart (n .start) cs
     → changeFirst (joins n) f cs ≡ changeFirst (joins n) f (near (n .start) cs) ++ drop (length (near (n .start) cs)) cs
 unfolding changeFirst near
 change-near n f [] h = refl
@@ -111,7 +114,7 @@ step-apart g a b p q l = let h : g ≤ b - a = le-of-dvd (omega arith) (dvd-sub 
 pub cut-keeps-length : (g : ℕ) (c : Chord) (vs : List Voice) → any (startsWith c) vs ≡ false → g ∣ c .start
     → All (Last (λ (l : Chord). (g ∣ l .start) × (l .start ≤ c .start))) vs → All (Last (λ (l : Chord). l .start + g ≤ c .start)) vs
 cut-keeps-length g c vs e d h =
-    All-map _ _ (λ v k. long v (k .0) (k .1)) vs (All-both (λ v. startsWith c v ≡ false) _ vs (any-none (startsWith c) vs e) h)
+    All-imp (λ v k. long v (k .0) (k .1)) vs (All-both (λ v. startsWith c v ≡ false) _ vs (any-none (startsWith c) vs e) h)
   where
     long : (v : Voice) → startsWith c v ≡ false → Last (λ (l : Chord). (g ∣ l .start) × (l .start ≤ c .start)) v
         → Last (λ (l : Chord). l .start + g ≤ c .start) v
@@ -130,7 +133,7 @@ chords-cut g ns p xs c ys e t =
     let snaps : List RawNote = map (snapped g) ns in
     let (s, l, w, h) =
     foldl-before place (λ s. All (SoFar g snaps s)) (Whole g snaps) chordStart (place-so-far g snaps) xs c ys 0 noVoices
-    (subst (Rises chordStart 0) e (chords-rise g ns)) (subst (All (Whole g snaps)) e (chords-whole g g ns p (dvd-refl g)))
+    (All-all (λ d. zero-le) (xs ++ (c ∷ ys))) (subst (Rises chordStart) e (chords-rise g ns)) (subst (All (Whole g snaps)) e (chords-whole g g ns p (dvd-refl g)))
     (tt, (tt, (tt, (tt, tt)))) in
     cut-keeps-length g c (spread xs) t (w .good .sound .starts)
-    (All-map (SoFar g snaps s) _ (last-on g snaps s (c .start) l) (spread xs) h)
+    (All-imp (last-on g snaps s (c .start) l) (spread xs) h)

@@ -1,5 +1,6 @@
 pub mod Admitted
 pub mod Claims
+pub mod Exact
 pub mod Ladder
 pub mod Lines
 pub mod Notes

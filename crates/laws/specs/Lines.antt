@@ -6,6 +6,7 @@ use mathlib.Core.Path.{_≡_}
 use Rattle.rules.specs.Lists.{Some}
 use Rattle.rules.specs.RawNotes.{RawNote}
 use Rattle.rules.specs.Bars.{Bar, barEnd}
+use Rattle.rules.specs.ProofReader.{HasKey}
 use Rattle.rules.specs.Voices.{Chord}
 
 -- a chord that has a length and a key, its start and end multiples of u
@@ -19,6 +20,10 @@ pub record Sound (u : ℕ) (c : Chord) : Type 0 where
 abbrev pub Line : ℕ → ℕ → List Chord → Type 0
 Line u a [] = Unit {0}
 Line u a (c ∷ cs) = (a ≤ c .start) × Sound u c × Line u (c .end) cs
+
+-- each of some keys is that of a note of start a; ns are snapped notes
+abbrev pub KeysNoted : List RawNote → ℕ → ℕ → Type 0
+KeysNoted ns a keys = (k : ℕ) → HasKey k keys → Some (λ (n : RawNote). (n .start ≡ a) × (n .key ≡ k)) ns
 
 -- each chord ends with a note of its start, or where its voice's next chord starts; ns are snapped notes
 abbrev pub EndsNoted : List RawNote → Chord → Type 0

@@ -6,9 +6,9 @@ use mathlib.Core.Option.{Option, none, some}
 use lib.Dec.{eqb, leb, ltb}
 use lib.IntN.{ℤ, pos, _+ℤ_, natAbs}
 use Rattle.rules.specs.Lists.{keep, lastOr, largest, flag}
-use Rattle.rules.specs.Piece.{Piece, firstTrack, ticksPerQuarter}
+use Rattle.rules.specs.Piece.{Piece, Event, firstTrack, ticksPerQuarter}
 use Rattle.rules.specs.RawNotes.{RawNote, rawNotes, parts}
-use Rattle.rules.specs.Changes.{Change, Meter, Key, sameMeter, headMeter, tempoChanges, meterChanges, keyChanges}
+use Rattle.rules.specs.Changes.{Change, Meter, Key, sameMeter, firstMeter, tempoChanges, meterChanges, keyChanges}
 
 -- The meter in force at a tick: of the changes at or before it the last, else the head's.
 abbrev pub meterAt : List (Change Meter) → Meter → ℕ → Meter
@@ -41,10 +41,13 @@ endOfPiece x = largest (map (λ (n : RawNote). n .end) (flatMap rawNotes (parts 
 abbrev pub mostBars : ℕ
 mostBars = 10000
 
--- A piece's bars, limit of them at most: from tick 0, with the head's meter.
+-- Bars by a track's changes: from tick 0, with the head's meter, limit of them at most.
+abbrev pub barsIn : ℕ → ℕ → List Event → ℕ → List Bar
+barsIn limit p es end = barsFrom limit p (meterAt (meterChanges es) (firstMeter es)) end 0
+
+-- A piece's bars go by the changes of its first track.
 unfoldable pub barsUpTo : ℕ → Piece → List Bar
-barsUpTo limit x =
-    barsFrom limit (ticksPerQuarter x) (meterAt (meterChanges (firstTrack x)) (headMeter x)) (endOfPiece x) 0
+barsUpTo limit x = barsIn limit (ticksPerQuarter x) (firstTrack x) (endOfPiece x)
 
 abbrev pub bars : Piece → List Bar
 bars x = barsUpTo mostBars x
@@ -89,8 +92,15 @@ marksFrom ts ks (b ∷ bs) [] = []
 marksFrom ts ks (b ∷ bs) (isPrinted ∷ ps) =
     markOf (b .meter) isPrinted (tempoMark ts (b .start)) (keyMark ks (b .start)) ∷ marksFrom ts ks bs ps
 
-abbrev pub marks : Piece → List ℕ
-marks x = marksFrom (tempoChanges (firstTrack x)) (keyChanges (firstTrack x)) (bars x) (printed (bars x))
+abbrev pub marksIn : List Event → List Bar → List ℕ
+marksIn es bs = marksFrom (tempoChanges es) (keyChanges es) bs (printed bs)
+
+-- Output: starts, and marks.
+abbrev pub startsOf : List Bar → List ℕ
+startsOf bs = map (λ (b : Bar). b .start) bs
 
 abbrev pub starts : Piece → List ℕ
-starts x = map (λ (b : Bar). b .start) (bars x)
+starts x = startsOf (bars x)
+
+abbrev pub marks : Piece → List ℕ
+marks x = marksIn (firstTrack x) (bars x)

@@ -1,25 +1,24 @@
 -- The calls: what each answers, and what each lent array holds after it, from the inputs and what the arrays held before. The lengths of the lent
 -- arrays are part of the inputs: they decide number 8.
 use Prim.Native.Nat.{ℕ}
-use mathlib.Core.Bool.{Bool, _&&_}
+use mathlib.Core.Bool.{Bool}
 use mathlib.Core.List.{List, [], _∷_, _++_, map}
 use mathlib.Core.Path.{_≡_}
-use lib.Dec.{leb}
 use lib.ListN.{length, getD}
 use Rattle.rules.specs.Lists.{written, cleared}
-use Rattle.rules.specs.Refusals.{Result, Refusal, unless, answers, writes, pieceRefusals, noteRefusals, partRefusals, shortWork, shortOutput, unevenPart, outOfRange}
+use Rattle.rules.specs.Refusals.{Result, Refusal, unless, answers, writes, pieceRefusals, noteRefusals, partRefusals, shortWork, shortOutput, unevenPart, badCode, badDots, badKey}
 use Rattle.rules.specs.Piece.{Piece, Event, ticksPerQuarter}
 use Rattle.rules.specs.RawNotes.{RawNote, rawNotes, parts}
 use Rattle.rules.specs.Changes.{Head, head, PartHead, partHead}
 use Rattle.rules.specs.Bars.{Bar, bars, starts, marks}
 use Rattle.rules.specs.Grid.{grid}
-use Rattle.rules.specs.Values.{beats256, largestCode, mostDots}
+use Rattle.rules.specs.Values.{beats256}
 use Rattle.rules.specs.Items.{Item, StaffArrays, arraysOf, itemsOf}
 use Rattle.rules.specs.Staff.{partStaff}
 use Rattle.rules.specs.ProofReaderTests.{verdict, even?}
 use Rattle.rules.specs.Automation.{AutomationLists, automationLists}
 use Rattle.rules.specs.Diagnostics.{Diagnostic, diagnostics, placeOf, detailOf}
-use Rattle.rules.specs.Spelling.{Spelling, spelled, largestKey}
+use Rattle.rules.specs.Spelling.{Spelling, spelled}
 
 -- part k's track
 abbrev pub partTrack : Piece → ℕ → List Event
@@ -176,7 +175,7 @@ pub record ProofReadCalled (r : Result Bool) (work₀ : List ℕ) (answer : Resu
 
 -- code and dots; the length in 256ths of a quarter
 abbrev pub beatsCall : ℕ → ℕ → Result ℕ
-beatsCall code dots = unless (outOfRange (leb code largestCode && leb dots mostDots) ∷ []) (beats256 code dots)
+beatsCall code dots = unless (badCode code ∷ badDots dots ∷ []) (beats256 code dots)
 
 abbrev pub spellingCall : ℕ → Result Spelling
-spellingCall key = unless (outOfRange (leb key largestKey) ∷ []) (spelled key)
+spellingCall key = unless (badKey key ∷ []) (spelled key)

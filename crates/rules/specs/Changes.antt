@@ -58,30 +58,34 @@ abbrev pub atZero : {A : Type 0} → List (Change A) → List A
 atZero cs = map (λ c. c .to) (keep (λ c. eqb (c .tick) 0) cs)
 
 -- The head has the first tempo of tick 0, else 120, and the first meter of tick 0, else 4/4.
-abbrev pub headTempo : Piece → ℕ
-headTempo x = firstOr 120 (atZero (tempoChanges (firstTrack x)))
+abbrev pub firstTempo : List Event → ℕ
+firstTempo es = firstOr 120 (atZero (tempoChanges es))
 
 abbrev pub commonTime : Meter
 commonTime = record { upper = 4; lower = 4 }
 
-abbrev pub headMeter : Piece → Meter
-headMeter x = firstOr commonTime (atZero (meterChanges (firstTrack x)))
+abbrev pub firstMeter : List Event → Meter
+firstMeter es = firstOr commonTime (atZero (meterChanges es))
 
 -- The very first key change if at tick 0; otherwise the key is absent.
 abbrev pub keyIfAtZero : Option (Change Key) → Option Key
 keyIfAtZero none = none
 keyIfAtZero (some c) = cond (eqb (c .tick) 0) (some (c .to)) none
 
-abbrev pub headKey : Piece → Option Key
-headKey x = keyIfAtZero (head? (keyChanges (firstTrack x)))
+abbrev pub firstKey : List Event → Option Key
+firstKey es = keyIfAtZero (head? (keyChanges es))
 
 pub record Head : Type 0 where
   pub tempo : ℕ
   pub meter : Meter
   pub key : Option Key
 
+abbrev pub headIn : List Event → Head
+headIn es = record { tempo = firstTempo es; meter = firstMeter es; key = firstKey es }
+
+-- Only from the first track.
 abbrev pub head : Piece → Head
-head x = record { tempo = headTempo x; meter = headMeter x; key = headKey x }
+head x = headIn (firstTrack x)
 
 -- A part's head: channel and program.
 pub record PartHead : Type 0 where

@@ -38,11 +38,11 @@ atEvent code track e =
     record { code = code; track = track; event = e .number; tick = e .tick; channel = absent; key = absent }
 
 -- The first meter at any tick, else 4/4, and its length, which may be 0.
-abbrev pub firstMeter : Piece → Meter
-firstMeter x = firstOr commonTime (map (λ (c : Change Meter). c .to) (meterChanges (firstTrack x)))
+abbrev pub anyMeter : Piece → Meter
+anyMeter x = firstOr commonTime (map (λ (c : Change Meter). c .to) (meterChanges (firstTrack x)))
 
-abbrev pub firstMeterLength : Piece → ℕ
-firstMeterLength x = 4 * ticksPerQuarter x * firstMeter x .upper / firstMeter x .lower
+abbrev pub anyMeterLength : Piece → ℕ
+anyMeterLength x = 4 * ticksPerQuarter x * anyMeter x .upper / anyMeter x .lower
 
 -- 2: a tempo or meter event of the first track after tick 0 and not at a multiple of the first meter's length; length 0 gives none.
 abbrev pub isOffMeasure : ℕ → Event → Bool
@@ -50,7 +50,7 @@ isOffMeasure l e =
     (isKind 2 (e .word) || isKind 3 (e .word)) && ltb 0 (e .tick) && not (eqb (e .tick % l) 0) && not (eqb l 0)
 
 abbrev pub offMeasureFound : Piece → List Diagnostic
-offMeasureFound x = map (atEvent 2 0) (keep (isOffMeasure (firstMeterLength x)) (firstTrack x))
+offMeasureFound x = map (atEvent 2 0) (keep (isOffMeasure (anyMeterLength x)) (firstTrack x))
 
 -- what is found in each track, from track number n on
 unfoldable pub inTracks : (ℕ → List Event → List Diagnostic) → ℕ → List (List Event) → List Diagnostic

@@ -7,7 +7,7 @@ use lib.ListN.{length, getD}
 use Rattle.rules.specs.Lists.{keep, any, every, position, changeFirst, insert, sortBy, flag}
 use Rattle.rules.specs.Piece.{Piece, firstTrack, timed, cutTracks}
 use Rattle.rules.specs.RawNotes.{RawNote, rawNotes, withoutOldest, pairOne, rawNotesOf}
-use Rattle.rules.specs.Changes.{headMeter}
+use Rattle.rules.specs.Changes.{head}
 use Rattle.rules.specs.Bars.{barsFrom, endOfPiece, barsUpTo, starts, printedFrom, marksFrom, marks}
 use Rattle.rules.specs.Grid.{isOffGrid, grid}
 use Rattle.rules.specs.Voices.{Chord, joinOrOpen, chords, choose, place, voices}
@@ -94,7 +94,7 @@ further =
     -- of equal start and key the closed come first, then the unclosed by channel
     ∷ row (notesOf threeChannels) (0 ∷ 10 ∷ 60 ∷ 3 ∷ 0 ∷ 20 ∷ 60 ∷ 1 ∷ 0 ∷ 20 ∷ 60 ∷ 2 ∷ [])
     -- the head has the first meter of tick 0, a bar the last change at or before its start
-    ∷ row (headMeter meters .upper ∷ headMeter meters .lower ∷ []) (3 ∷ 4 ∷ [])
+    ∷ row (head meters .meter .upper ∷ head meters .meter .lower ∷ []) (3 ∷ 4 ∷ [])
     ∷ row (starts meters) (0 ∷ 1920 ∷ [])
     ∷ row (marks meters) ((4 + 4 * 2 ^ 8 + 2 ^ 16) ∷ (5 + 4 * 2 ^ 8 + 2 ^ 16) ∷ [])
     -- bars run to the raw end: the sole note starts at 1920 and is not written

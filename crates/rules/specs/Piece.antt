@@ -15,6 +15,9 @@ pub record Piece : Type 0 where
   pub deltas : List ℕ
   pub words : List ℕ
 
+abbrev pub piece : List ℕ → List ℕ → List ℕ → Piece
+piece sizes deltas words = record { sizes = sizes; deltas = deltas; words = words }
+
 -- Sizes: the division, the track count T, then T event counts.
 abbrev pub division : Piece → ℕ
 division x = getD (x .sizes) 0 0

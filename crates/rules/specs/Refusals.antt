@@ -7,6 +7,8 @@ use lib.ListN.{length}
 use Rattle.rules.specs.Lists.{isEmpty}
 use Rattle.rules.specs.Piece.{Piece, division, sizesAgree, wellFormed}
 use Rattle.rules.specs.RawNotes.{parts, mostNotes}
+use Rattle.rules.specs.Spelling.{largestKey}
+use Rattle.rules.specs.Values.{largestCode, mostDots}
 
 -- A refusal is its number alone.
 pub data Result (A : Type 0) : Type 0 where
@@ -25,6 +27,11 @@ refuse n t = record { number = n; applies = t }
 unfoldable pub unless : {A : Type 0} → List Refusal → A → Result A
 unless [] a = given a
 unless (r ∷ rs) a = cond (r .applies) (refused (r .number)) (unless rs a)
+
+-- the number of the first refusal that applies; 0 where none does
+unfoldable pub firstNumber : List Refusal → ℕ
+firstNumber [] = 0
+firstNumber (r ∷ rs) = cond (r .applies) (r .number) (firstNumber rs)
 
 -- what a call answers by value
 abbrev pub answers : {A B : Type 0} → (A → B) → Result A → Result B
@@ -77,9 +84,16 @@ shortWork x work = refuse 8 (ltb work (workNeeded x))
 abbrev pub shortOutput : ℕ → List ℕ → Refusal
 shortOutput room xs = refuse 8 (ltb room (length xs))
 
--- 9 uneven, 10 out of range: given by their calls
+-- 9: uneven
 abbrev pub unevenPart : Bool → Refusal
 unevenPart even = refuse 9 (not even)
 
-abbrev pub outOfRange : Bool → Refusal
-outOfRange inRange = refuse 10 (not inRange)
+-- 10: a code, dots or a key out of range
+abbrev pub badCode : ℕ → Refusal
+badCode code = refuse 10 (ltb largestCode code)
+
+abbrev pub badDots : ℕ → Refusal
+badDots dots = refuse 10 (ltb mostDots dots)
+
+abbrev pub badKey : ℕ → Refusal
+badKey key = refuse 10 (ltb largestKey key)
