@@ -2,9 +2,13 @@
 //! beside another import: pieces, answers, refusals and a generator.
 
 pub mod answers;
+#[cfg(feature = "library")]
+pub mod compare;
 pub mod coverage;
 pub mod examples;
 pub mod generate;
+#[cfg(feature = "library")]
+pub mod library;
 pub mod packed;
 pub mod piece;
 pub mod reference;

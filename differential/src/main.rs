@@ -13,6 +13,7 @@ const USAGE: &str = "usage: differential COMMAND
   examples             document 01's examples against the reference
   generate SEED COUNT  the reference over generated pieces
   piece SEED INDEX     one generated piece
+  compare SEED COUNT [SECONDS]  the proved library against the reference (feature `library`)
 A piece is three lines of decimals: sizes, deltas, words.";
 
 fn main() -> ExitCode {
@@ -28,6 +29,11 @@ fn main() -> ExitCode {
             print!("{}", generate::numbered(seed, number(index)?).print());
             Ok(())
         }),
+        #[cfg(feature = "library")]
+        ["compare", seed, count, ref seconds @ ..] if seconds.len() < 2 => {
+            let limit = seconds.first().map_or(Ok(u64::MAX), |word| number(word));
+            number(seed).and_then(|seed| compare(seed, number(count)?, limit?))
+        }
         _ => Err(USAGE.to_string()),
     };
     match result {
@@ -94,5 +100,28 @@ fn run(seed: u64, count: u64) -> Result<(), String> {
         std::panic::catch_unwind(add).map_err(|_| format!("at piece {seed} {index}"))?;
     }
     print!("{report}");
+    Ok(())
+}
+
+/// The library against the reference, until a piece differs or the time is over.
+#[cfg(feature = "library")]
+fn compare(seed: u64, count: u64, seconds: u64) -> Result<(), String> {
+    let begun = std::time::Instant::now();
+    for index in 0..count {
+        if index % 100_000 == 0 && index > 0 {
+            println!("{index} pieces of seed {seed} agree, {} s", begun.elapsed().as_secs());
+        }
+        if begun.elapsed().as_secs() >= seconds {
+            println!("{index} pieces of seed {seed} agree; the time is over");
+            return Ok(());
+        }
+        let piece = generate::numbered(seed, index);
+        if let Err(what) = differential::compare::piece(&piece) {
+            let small = differential::compare::shrunk(&piece);
+            let why = differential::compare::piece(&small).err().unwrap_or_default();
+            return Err(format!("piece {seed} {index}: {what}\nsmallest:\n{}{why}", small.print()));
+        }
+    }
+    println!("{count} pieces of seed {seed} agree, {} s", begun.elapsed().as_secs());
     Ok(())
 }

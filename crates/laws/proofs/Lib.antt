@@ -6,6 +6,7 @@ pub mod Filling
 pub mod Folds
 pub mod KeyBits
 pub mod Lists
+pub mod Loops
 pub mod Notes
 pub mod Order
 pub mod Parts

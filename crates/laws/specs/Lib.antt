@@ -3,6 +3,7 @@ pub mod Claims
 pub mod Exact
 pub mod Ladder
 pub mod Lines
+pub mod NoteWords
 pub mod Notes
 pub mod Parts
 pub mod Says

@@ -1,0 +1,3 @@
+pub mod Entries
+pub mod Spreading
+pub mod Tables

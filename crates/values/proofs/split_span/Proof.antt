@@ -1,0 +1,60 @@
+-- `split_span` writes the pieces. The invariant: those written, and those that the entries from i on give for the ticks left, are all.
+use Prim.Native.Nat.{_+_, _-_}
+use mathlib.Core.Path.{sym, _∙_}
+use native.Mathlib.Omega.{arith}
+use Rattle.values.proofs.Spreading.{Spreading, spreading-start, spreading-fits, spreading-room, spreading-more, spreading-over, spreading-end}
+use Rattle.values.proofs.split_span.Statement.{statement}
+use Rattle.values.proofs.split_span.Tie as tie
+
+abbrev Inv-loop : tie.InvT-loop
+Inv-loop values ticks out₀ from bits left₀ at₀ i₀ out left at i = Spreading values ticks from bits out₀ out left at i
+
+abbrev μ-loop : tie.MeasureT-loop
+μ-loop values ticks out₀ from bits left₀ at₀ i₀ out left at i = left + (18 - i)
+
+loop-holds : tie.Need-loop-holds Inv-loop μ-loop
+loop-holds c = spreading-start _ _ _ _ _ (c .before .pre .0)
+
+slice-write-out : tie.Need-slice-write-out Inv-loop μ-loop
+slice-write-out c = spreading-room (c .before .before .before .before .before .loop .inv) (omega arith) (sym (c .before .before .fits2 .ensures) ∙ c .before .if1 .taken)
+
+sub-left : tie.Need-sub-left Inv-loop μ-loop
+sub-left c = spreading-fits (c .before .before .before .before .before .loop .inv) (omega arith) (sym (c .before .before .fits2 .ensures) ∙ c .before .if1 .taken) .1
+
+loop-less : tie.Need-loop-less Inv-loop μ-loop
+loop-less c = let fit = spreading-fits (c .before .before .before .before .before .loop .inv) (omega arith) (sym (c .before .before .fits2 .ensures) ∙ c .before .if1 .taken) in omega arith
+
+loop-again : tie.Need-loop-again Inv-loop μ-loop
+loop-again c = rw (c .word .ensures) (spreading-more (c .before .before .before .before .before .loop .inv) (omega arith) (sym (c .before .before .fits2 .ensures) ∙ c .before .if1 .taken))
+
+loop-again-2 : tie.Need-loop-again-2 Inv-loop μ-loop
+loop-again-2 c = spreading-over (c .before .before .before .before .loop .inv) (omega arith) (sym (c .before .fits2 .ensures) ∙ c .if1 .left)
+
+same-length : tie.Need-same-length Inv-loop μ-loop
+same-length c = c .before .loop .inv .filling .kept
+
+returns : tie.Need-returns Inv-loop μ-loop
+returns c p h e = spreading-end (c .before .loop .inv) (omega arith) p h e
+
+pub split-span-spec : {M : Type 1} → statement M
+split-span-spec =
+    tie.close
+    (tie.spec
+    Inv-loop
+    μ-loop
+    loop-holds
+    (λ c. omega arith)
+    (λ c. omega arith)
+    (λ c κs. omega arith)
+    (λ c κs. omega arith)
+    (λ c. omega arith)
+    slice-write-out
+    (λ c. omega arith)
+    sub-left
+    loop-less
+    loop-again
+    (λ c. omega arith)
+    (λ c. omega arith)
+    loop-again-2
+    same-length
+    returns)

@@ -1,0 +1,80 @@
+// Words taken apart, in one place: section 1's table of kinds.
+ghost use mathlib.Core.Path.{_≡_};
+ghost use mathlib.Core.Bool.{_&&_};
+ghost use lib.Dec.{leb};
+ghost use Rattle.rules.specs.Piece.{wellFormed, isOn, isOff, tempoValue};
+ghost use Rattle.words.specs.Track.{IsWord};
+
+// A word's four bytes, from the top.
+pub struct Word {
+    pub kind: u32,
+    pub a: u32,
+    pub b: u32,
+    pub c: u32,
+}
+
+// The word taken apart.
+pub fn take_apart(w: u32) -> Word
+    ensures { λ r. ⌜ IsWord w r ⌝ }
+{
+    Word {
+        kind: w / 16777216,
+        a: w / 65536 % 256,
+        b: w / 256 % 256,
+        c: w % 256,
+    }
+}
+
+// Whether a, b and c are at most these limits.
+fn within(x: Word, a: u32, b: u32, c: u32) -> bool
+    ensures { λ r. ⌜ r ≡ (leb (x .a) a && leb (x .b) b && leb (x .c) c) ⌝ }
+{
+    if a < x.a {
+        return false;
+    }
+    if b < x.b {
+        return false;
+    }
+    x.c <= c
+}
+
+// Whether the bytes are in the range of the word's kind, and unused bytes are 0.
+pub fn well_formed(w: u32) -> bool
+    ensures { λ r. ⌜ r ≡ wellFormed w ⌝ }
+{
+    let x = take_apart(w);
+    let k = x.kind;
+    match k {
+        0 | 1 | 6 => within(x, 0, 0, 0),
+        2 => true,
+        3 => within(x, 255, 7, 0),
+        4 => within(x, 255, 1, 0),
+        5 => within(x, 255, 255, 0),
+        8 | 9 | 10 | 11 | 14 => within(x, 15, 127, 127),
+        12 | 13 => within(x, 15, 127, 0),
+        _ => false,
+    }
+}
+
+// Whether the word is a note-on above velocity 0.
+pub fn is_on(w: u32) -> bool
+    ensures { λ r. ⌜ r ≡ isOn w ⌝ }
+{
+    let x = take_apart(w);
+    x.kind == 9 && x.c != 0
+}
+
+// Whether the word is a note-off, or a note-on with velocity 0.
+pub fn is_off(w: u32) -> bool
+    ensures { λ r. ⌜ r ≡ isOff w ⌝ }
+{
+    let x = take_apart(w);
+    x.kind == 8 || x.kind == 9 && x.c == 0
+}
+
+// The microseconds per quarter of a tempo's word.
+pub fn tempo_value(w: u32) -> u32
+    ensures { λ r. ⌜ r ≡ tempoValue w ⌝ }
+{
+    w % 16777216
+}
