@@ -54,11 +54,23 @@ number-passes (r ∷ rs) n h =
     ]
 
 -- a list whose first number is not 0 gives it, whatever follows
-pub number-refused : {A : Type 0} (rs ss : List Refusal) (a : A) → 0 < firstNumber rs → unless (rs ++ ss) a ≡ refused (firstNumber rs)
+pub number-refused : {A : Type 0} (rs ss : List Refusal) (a : A) (k : ℕ) → firstNumber rs ≡ k → 0 < k → unless (rs ++ ss) a ≡ refused k
 unfolding firstNumber unless
-number-refused [] ss a h = absurd (omega arith)
-number-refused (r ∷ rs) ss a h =
-    elim (by-bool (r .applies)) [ inl t ↦ rw t | inr t ↦ rw t (number-refused rs ss a (rw t at h)) ]
+number-refused [] ss a k h l = absurd (omega arith)
+number-refused (r ∷ rs) ss a k h l =
+    elim (by-bool (r .applies)) [ inl t ↦ rw t (ap refused (rw t at h)) | inr t ↦ rw t (number-refused rs ss a k (rw t at h) l) ]
+
+pub number-first : (rs ss : List Refusal) (k : ℕ) → firstNumber rs ≡ k → 0 < k → firstNumber (rs ++ ss) ≡ k
+unfolding firstNumber
+number-first [] ss k h l = absurd (omega arith)
+number-first (r ∷ rs) ss k h l =
+    elim (by-bool (r .applies)) [ inl t ↦ rw t (rw t at h) | inr t ↦ rw t (number-first rs ss k (rw t at h) l) ]
+
+-- a list of which none applies leaves it to what follows
+pub number-after : (rs ss : List Refusal) → Passes rs → firstNumber (rs ++ ss) ≡ firstNumber ss
+unfolding firstNumber
+number-after [] ss h = refl
+number-after (r ∷ rs) ss h = rw (h .0) (number-after rs ss (h .1))
 
 -- ---- numbers 1 to 5
 

@@ -14,7 +14,7 @@ use Rattle.rules.specs.Lists.{All}
 use Rattle.rules.specs.Piece.{Piece, division, sizesAgree, wellFormed}
 use Rattle.rules.specs.Refusals.{refused, Refusal, unless, firstNumber, eventRefusals, pieceRefusals, mostEvents, largestDelta}
 use Rattle.laws.specs.Admitted.{Passes, Admitted}
-use Rattle.laws.proofs.Refusals.{Agree, sizes-agree, admitted}
+use Rattle.laws.proofs.Refusals.{Agree, sizes-agree, admitted, Numbered, number-passes, number-refused}
 use Rattle.laws.proofs.Order.{by-bool}
 
 -- ---- sizes
@@ -68,40 +68,20 @@ module _ (x : Piece) where
       number-event l = rw (s, ne-eqb (division x) 0 d, le-ltb mostEvents (length (x .deltas)) l)
 
 -- ---- what an answer says: each number is above 0
-Numbered : List Refusal → Type 0
-Numbered rs = All (λ (r : Refusal). 0 < r .number) rs
-
-none-applies : (rs : List Refusal) → Numbered rs → firstNumber rs ≡ 0 → Passes rs
-unfolding firstNumber Numbered
-none-applies [] n h = tt
-none-applies (r ∷ rs) n h =
-    elim (by-bool (r .applies)) [
-      | inl e ↦ let z : r .number ≡ 0 = rw e at h in absurd (omega (arith, n .0))
-      | inr e ↦ (e, none-applies rs (n .1) (rw e at h))
-    ]
-
-one-applies : {A : Type 0} (rs ss : List Refusal) (a : A) (k : ℕ) → firstNumber rs ≡ k → 0 < k → unless (rs ++ ss) a ≡ refused k
-unfolding firstNumber unless
-one-applies [] ss a k h l = absurd (omega arith)
-one-applies (r ∷ rs) ss a k h l =
-    elim (by-bool (r .applies)) [
-      | inl e ↦ rw e (ap refused (rw e at h))
-      | inr e ↦ rw e (one-applies rs ss a k (rw e at h) l)
-    ]
 
 event-numbers : (ds ws : List ℕ) → Numbered (eventRefusals ds ws)
-unfolding eventRefusals Numbered
+unfolding eventRefusals
 event-numbers [] ws = tt
 event-numbers (d ∷ ds) [] = tt
 event-numbers (d ∷ ds) (w ∷ ws) = (omega arith, (omega arith, event-numbers ds ws))
 
-piece-numbers : (x : Piece) → Numbered (pieceRefusals x)
-unfolding pieceRefusals Numbered
+pub piece-numbers : (x : Piece) → Numbered (pieceRefusals x)
+unfolding pieceRefusals
 piece-numbers x = (omega arith, (omega arith, (omega arith, event-numbers (x .deltas) (x .words))))
 
 -- an answer of 0
 pub passes : (x : Piece) → firstNumber (pieceRefusals x) ≡ 0 → Passes (pieceRefusals x)
-passes x h = none-applies (pieceRefusals x) (piece-numbers x) h
+passes x h = number-passes (pieceRefusals x) (piece-numbers x) h
 
 pub admits : (x : Piece) → firstNumber (pieceRefusals x) ≡ 0 → Admitted x
 admits x h = admitted x (passes x h)
@@ -109,4 +89,4 @@ admits x h = admitted x (passes x h)
 -- any other answer: whatever else the call may refuse, this is its number
 pub refuses : {A : Type 0} (x : Piece) (ss : List Refusal) (a : A) (k : ℕ) → firstNumber (pieceRefusals x) ≡ k → 0 < k
     → unless (pieceRefusals x ++ ss) a ≡ refused k
-refuses x ss a k h l = one-applies (pieceRefusals x) ss a k h l
+refuses x ss a k h l = number-refused (pieceRefusals x) ss a k h l

@@ -1,0 +1,55 @@
+-- What each answer means: its number, or the values that document 01 asks for.
+use Prim.Native.Nat.{ℕ, _≤_, _<_}
+use mathlib.Core.Bool.{Bool, true, false, cond}
+use mathlib.Core.List.{List, []}
+use mathlib.Core.Option.{none, some}
+use mathlib.Core.Path.{_≡_}
+use lib.IntN.{pos}
+use lib.ListN.{length}
+use Rattle.rules.specs.Changes as rules
+use Rattle.rules.specs.Piece.{Piece}
+use Rattle.rules.specs.RawNotes.{parts, mostNotes}
+use Rattle.rules.specs.Refusals.{Result, refused, given, firstNumber, noteRefusals}
+use Rattle.rules.specs.Calls.{headCall, partCountCall, partHeadCall}
+use Rattle.changes.specs.declared.Head as changes
+use Rattle.changes.specs.declared.PartHead as part
+use Rattle.acorde.specs.declared.Entry.{Entry}
+use Rattle.acorde.specs.declared.HeadAnswer as head
+use Rattle.acorde.specs.declared.PartCountAnswer as count
+use Rattle.acorde.specs.declared.PartHeadAnswer as part-head
+
+-- A piece at the door: the first of 1 to 6 that applies, else 0; then how many parts it has, and N.
+pub record Entered (x : Piece) (r : Entry) : Type 0 where
+  pub number : r .number ≡ firstNumber (noteRefusals x)
+  pub parts : r .number ≡ 0 → r .parts ≡ length (parts x)
+  pub most : r .number ≡ 0 → r .most ≡ mostNotes x
+
+-- the head that a struct stands for
+abbrev pub headOf : changes.Head → rules.Head
+headOf h =
+    record {
+      tempo = h .tempo;
+      meter = record { upper = h .upper; lower = h .lower };
+      key = cond (h .«has_key») (some (record { fifths = h .fifths; minor = h .minor })) none;
+    }
+
+abbrev pub headAnswer : head.HeadAnswer → Result rules.Head
+headAnswer (head.the-variants.Refused n) = refused n
+headAnswer (head.the-variants.Given h) = given (headOf h)
+
+-- where the key is absent its fields are 0
+abbrev pub AbsentKey : head.HeadAnswer → Type 0
+AbsentKey (head.the-variants.Refused n) = Unit {0}
+AbsentKey (head.the-variants.Given h) = h .«has_key» ≡ false → (h .fifths ≡ pos 0) × (h .minor ≡ false)
+
+pub record HeadCalled (x : Piece) (r : head.HeadAnswer) : Type 0 where
+  pub answered : headAnswer r ≡ headCall x
+  pub absent : AbsentKey r
+
+abbrev pub countAnswer : count.PartCountAnswer → Result ℕ
+countAnswer (count.the-variants.Refused n) = refused n
+countAnswer (count.the-variants.Given n) = given n
+
+abbrev pub partHeadAnswer : part-head.PartHeadAnswer → Result rules.PartHead
+partHeadAnswer (part-head.the-variants.Refused n) = refused n
+partHeadAnswer (part-head.the-variants.Given h) = given (record { channel = h .channel; program = h .program })

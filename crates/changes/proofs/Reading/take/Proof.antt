@@ -1,0 +1,41 @@
+-- `take` goes by the word's kind, as the step does: each arm rewrites the step by its kind.
+use native.Mathlib.Omega.{arith}
+use borrow.Author.Needs.{needs}
+use borrow.Author.Tests.{ne-eqb}
+use Rattle.words.proofs.Tracks.{meter-bounds}
+use Rattle.changes.specs.Reads.{took}
+use Rattle.changes.proofs.Reading.take.Statement.{statement}
+use Rattle.changes.proofs.Reading.take.Tie as tie
+
+take-meter-requires : tie.Need-take-meter-requires
+take-meter-requires c κs = omega (arith, meter-bounds (c .before .args .word) (c .before .pre) (c .match .keys2))
+
+returns : tie.Need-returns
+unfolding took
+returns c = rw (c .before .match .keys1) (c .take-tempo .ensures)
+
+returns-2 : tie.Need-returns-2
+unfolding took
+returns-2 c = rw (c .before .match .keys2) (c .take-meter .ensures)
+
+returns-3 : tie.Need-returns-3
+unfolding took
+returns-3 c = rw (c .before .match .keys3) (c .take-key .ensures)
+
+returns-4 : tie.Need-returns-4
+unfolding took
+returns-4 c =
+    let other = c .match .rest in
+    rw (ne-eqb _ _ (other .0 .0 .1), ne-eqb _ _ (other .0 .1), ne-eqb _ _ (other .1))
+
+pub take-spec : {M : Type 1} → statement M
+take-spec =
+    tie.close
+    (tie.spec
+    (λ c κs. search needs)
+    take-meter-requires
+    (λ c κs. search needs)
+    returns
+    returns-2
+    returns-3
+    returns-4)

@@ -1,0 +1,5 @@
+pub mod ListFacts
+pub mod Grids
+pub mod Passes
+pub mod Midway
+pub mod PartEnds

@@ -1,0 +1,159 @@
+-- Between two tracks the largest end so far and that of the parts still to come are together the end of the piece.
+use Prim.Native.Nat.{ℕ, suc, _+_, _-_, _≤_, _<_, max}
+use mathlib.Core.Bool.{not}
+use mathlib.Core.List.{List, [], _∷_, map, flatMap, foldl, head?}
+use mathlib.Core.Logic.{inl, inr}
+use mathlib.Core.Option.{Option, none, some}
+use mathlib.Core.Path.{_≡_, refl, sym, ap, _∙_}
+use native.Mathlib.Nat.{max-zero, zero-max}
+use native.Mathlib.Numerals.{add-one}
+use native.Mathlib.Omega.{arith}
+use borrow.Author.Tests.{lt-ltb}
+use lib.Dec.{ltb}
+use lib.ListN.{length, getD, take, drop, drop-of-length-le}
+use lib.Seq.{take-nil, drop-cons, drop-drop}
+use Rattle.rules.specs.Lists.{keep, sortBy, largest, isEmpty, sum, All}
+use Rattle.rules.specs.Piece.{Event, piece, cutTracks}
+use Rattle.rules.specs.RawNotes.{NoteEvent, noteEvents, RawNote, rawNote, Pairing, sameKey, takeOff, pairOne, noPairs, byChannel, byStart, rawNotesOf, rawNotes, lastTick, hasNotes, mostParts}
+use Rattle.rules.specs.Bars.{endOfPiece}
+use Rattle.laws.specs.Admitted.{Admitted}
+use Rattle.laws.proofs.Order.{by-bool}
+use Rattle.laws.proofs.Lists.{All-all, All-append}
+use Rattle.laws.proofs.Folds.{foldl-keeps}
+use Rattle.laws.proofs.Sort.{All-sort}
+use Rattle.laws.proofs.Notes.{has-notes}
+use Rattle.laws.proofs.Refusals.{Agree, sizes-agree}
+use Rattle.words.specs.Track.{Track, eventsOf, stretch}
+use Rattle.words.proofs.Tracks.{track-part}
+use Rattle.ends.specs.declared.Sofar.{Sofar}
+use Rattle.ends.specs.Pass.{trackEnd}
+use Rattle.ends.specs.Sofar.{taken}
+use Rattle.ends.proofs.ListFacts.{largest-map-append, max-assoc}
+use Rattle.ends.proofs.Passes.{pair-on, pair-off}
+
+-- ---- a track has notes exactly if its end is above 0
+
+abbrev Ends : RawNote → Type 0
+Ends n = 0 < n .end
+
+off-ends : (n : NoteEvent) (p : Pairing) (o : Option NoteEvent) → All Ends (p .closed) → All Ends (takeOff n p o .closed)
+off-ends n p none h = h
+off-ends n p (some s) h = All-append Ends (p .closed) (rawNote s (n .tick) ∷ []) h (omega arith, tt)
+
+one-ends : (p : Pairing) (n : NoteEvent) → All Ends (p .closed) → All Ends (pairOne p n .closed)
+one-ends p n h =
+    elim (by-bool (n .on)) [ inl t ↦ rw (pair-on p n t) h | inr t ↦ rw (pair-off p n t) (off-ends n p (head? (keep (sameKey n) (p .pending))) h) ]
+
+pending-end : (last : ℕ) (ss : List NoteEvent) → All Ends (map (λ s. rawNote s last) ss)
+pending-end last [] = tt
+pending-end last (s ∷ ss) = (omega arith, pending-end last ss)
+
+notes-end : (es : List Event) → All Ends (rawNotes es)
+unfolding rawNotesOf
+notes-end es =
+    let p = foldl pairOne noPairs (noteEvents es) in
+    All-sort byStart Ends _
+    (All-append Ends (p .closed) _
+    (foldl-keeps pairOne (λ q. All Ends (q .closed)) (λ n. Unit {0}) (λ q n u h. one-ends q n h) (noteEvents es) noPairs (All-all (λ n. tt) (noteEvents es)) tt)
+    (pending-end (lastTick es) (sortBy byChannel (p .pending))))
+
+some-end : (ns : List RawNote) → All Ends ns → ltb 0 (largest (map (λ (n : RawNote). n .end) ns)) ≡ not (isEmpty ns)
+some-end [] h = refl
+some-end (n ∷ ns) h = lt-ltb 0 (max (n .end) (largest (map (λ (n : RawNote). n .end) ns))) (omega (arith, h .0))
+
+pub has-end : (es : List Event) → hasNotes es ≡ ltb 0 (trackEnd es)
+unfolding trackEnd
+has-end es = has-notes es ∙ sym (some-end (rawNotes es) (notes-end es))
+
+-- ---- the parts to come
+
+-- the largest end of the first k of the tracks that have notes
+pub partsEnd : ℕ → List (List Event) → ℕ
+partsEnd k ess = largest (map (λ (n : RawNote). n .end) (flatMap rawNotes (take k (keep hasNotes ess))))
+
+-- the end of the piece, with those tracks to come
+pub after : Sofar → List (List Event) → ℕ
+after s ess = max (s .end) (partsEnd (mostParts - s .parts) ess)
+
+after-cons : (s : Sofar) (es : List Event) (ess : List (List Event)) → s .parts < mostParts → after s (es ∷ ess) ≡ after (taken s (trackEnd es)) ess
+unfolding after partsEnd keep trackEnd flatMap
+after-cons s es ess h =
+    let e : mostParts - s .parts ≡ suc (mostParts - (s .parts + 1)) = omega arith in
+    elim (by-bool (hasNotes es)) [
+      | inl t ↦
+          rw (sym (has-end es) ∙ t, t, e)
+          (rw (largest-map-append (λ (n : RawNote). n .end) (rawNotes es) (flatMap rawNotes (take (mostParts - (s .parts + 1)) (keep hasNotes ess))))
+          (max-assoc (s .end) _ _))
+      | inr f ↦ rw (sym (has-end es) ∙ f, f)
+    ]
+
+after-none : (s : Sofar) → after s [] ≡ s .end
+unfolding after partsEnd keep flatMap
+after-none s = rw (take-nil, max-zero)
+
+after-all : (s : Sofar) (ess : List (List Event)) → s .parts ≡ mostParts → after s ess ≡ s .end
+unfolding after partsEnd flatMap
+after-all s ess h = rw h (max-zero (s .end))
+
+-- ---- between two tracks
+
+pub record Between (s d w : List ℕ) (x : Sofar) (from i : ℕ) : Type 0 where
+  pub few : x .parts ≤ mostParts
+  pub room : from + sum (drop i s) ≡ length d
+  pub rest : after x (cutTracks (drop i s) (drop from d) (drop from w)) ≡ endOfPiece (piece s d w)
+
+taken-few : (s : Sofar) (e : ℕ) → s .parts < mostParts → taken s e .parts ≤ mostParts
+taken-few s e h = elim (by-bool (ltb 0 e)) [ inl t ↦ rw t (omega arith) | inr t ↦ rw t (omega arith) ]
+
+cut-next : (s d w : List ℕ) (from to i : ℕ) → to ≡ from + getD s i 0 → i < length s
+    → cutTracks (drop i s) (drop from d) (drop from w)
+    ≡ eventsOf (stretch from to d) (stretch from to w) ∷ cutTracks (drop (i + 1) s) (drop to d) (drop to w)
+unfolding cutTracks
+cut-next s d w from to i e h =
+    let size : to - from ≡ getD s i 0 = omega arith in
+    rw (drop-cons s i 0 h, size, e, drop-drop (getD s i 0) from d, drop-drop (getD s i 0) from w, add-one)
+
+module _ {s d w : List ℕ} (known : Admitted (piece s d w)) where
+  agree : Agree (piece s d w)
+  agree = sizes-agree (piece s d w) (known .sizes)
+
+  pub whole : Track d w
+  whole =
+      record {
+        same = agree .words ∙ sym (agree .deltas);
+        few = known .events;
+        small = known .deltas;
+        formed = known .words;
+      }
+
+  pub between-first : Between s d w (record { parts = 0; end = 0 }) 0 2
+  unfolding after partsEnd endOfPiece
+  between-first =
+      record { few = omega arith; room = omega (arith, agree .deltas); rest = zero-max (endOfPiece (piece s d w)) }
+
+  module _ {x : Sofar} {from i : ℕ} (b : Between s d w x from i) where
+    -- the track's events are within the arrays
+    pub track-within : i < length s → from + getD s i 0 ≤ length d
+    unfolding sum
+    track-within h = omega (arith, b .room, ap sum (drop-cons s i 0 h))
+
+    pub track-here : (to : ℕ) → to ≡ from + getD s i 0 → i < length s → Track (stretch from to d) (stretch from to w)
+    track-here to e h = track-part whole from to (omega arith) (omega (arith, track-within h))
+
+    pub between-next : (to : ℕ) → to ≡ from + getD s i 0 → i < length s → (x .parts ≡ mostParts → ⊥)
+        → Between s d w (taken x (trackEnd (eventsOf (stretch from to d) (stretch from to w)))) to (i + 1)
+    unfolding sum
+    between-next to e h n =
+        let few : x .parts < mostParts = omega (arith, b .few) in
+        record {
+          few = taken-few x (trackEnd (eventsOf (stretch from to d) (stretch from to w))) few;
+          room = rw add-one (omega (arith, b .room, ap sum (drop-cons s i 0 h)));
+          rest = sym (ap (after x) (cut-next s d w from to i e h) ∙ after-cons x _ _ few) ∙ b .rest;
+        }
+
+    pub between-end : length s ≤ i → x .end ≡ endOfPiece (piece s d w)
+    unfolding cutTracks
+    between-end h = sym (rw (drop-of-length-le s h) (after-none x)) ∙ b .rest
+
+    pub between-full : x .parts ≡ mostParts → x .end ≡ endOfPiece (piece s d w)
+    between-full h = sym (after-all x _ h) ∙ b .rest

@@ -1,0 +1,57 @@
+-- `ends::end_of_track` meets its contract. The loop's invariant: the pass over what is left, from here, is the pass over the whole track.
+use Prim.Native.Nat.{_-_}
+use mathlib.Core.Path.{_∙_}
+use native.Mathlib.Omega.{arith}
+use borrow.Author.Needs.{needs}
+use lib.ListN.{length}
+use Rattle.rules.specs.Refusals.{mostEvents}
+use Rattle.words.proofs.Tracks.{formed-at}
+use Rattle.ends.specs.Pass.{reached, nothing}
+use Rattle.ends.proofs.Midway.{Midway, delta-at, within-more, midway-first, midway-next, midway-end}
+use Rattle.ends.proofs.end_of_track.Statement.{statement}
+use Rattle.ends.proofs.end_of_track.Tie as tie
+
+abbrev Inv-loop : tie.InvT-loop
+Inv-loop deltas words counts₀ p₀ i₀ counts p i = Midway deltas words (reached counts p) i
+
+abbrev μ-loop : tie.MeasureT-loop
+μ-loop deltas words counts₀ p₀ i₀ counts p i = length deltas - i
+
+loop-holds : tie.Need-loop-holds Inv-loop μ-loop
+unfolding nothing
+loop-holds c = midway-first (c .before .before .pre)
+
+step-requires : tie.Need-step-requires Inv-loop μ-loop
+step-requires c κs =
+    let here = c .before .before .before .before in
+    let track = here .before .before .before .pre in
+    let i = here .loop .i in
+    (delta-at track i (omega arith), formed-at track i (omega arith), within-more (here .loop .inv .within) mostEvents (omega (arith, track .few)))
+
+loop-again : tie.Need-loop-again Inv-loop μ-loop
+loop-again c =
+    let here = c .before .before .before .before .before in
+    rw (c .step .ensures) (midway-next (here .before .before .before .pre) (omega arith) (here .loop .inv))
+
+returns : tie.Need-returns Inv-loop μ-loop
+returns c =
+    let here = c .before .before in
+    c .end-of .ensures ∙ midway-end (here .before .before .before .pre) (omega arith) (here .loop .inv)
+
+pub end-of-track-spec : {M : Type 1} → statement M
+end-of-track-spec =
+    tie.close
+    (tie.spec
+    Inv-loop
+    μ-loop
+    loop-holds
+    (λ c. omega arith)
+    (λ c. omega arith)
+    (λ c. omega arith)
+    (λ c. omega (arith, c .before .before .before .before .before .before .before .pre .same))
+    step-requires
+    (λ c. omega arith)
+    (λ c. omega arith)
+    loop-again
+    (λ c κs. search needs)
+    returns)

@@ -1,0 +1,159 @@
+// The end of the piece, section 4's largest raw end of all parts, from one pass over each track that pairs nothing.
+ghost use Prim.Native.Nat.{_+_, _*_, _≤_, _<_, max};
+ghost use mathlib.Core.Bool.{true};
+ghost use mathlib.Core.Path.{_≡_};
+ghost use Rattle.rules.specs.Piece.{piece, wellFormed};
+ghost use Rattle.rules.specs.RawNotes.{mostParts};
+ghost use Rattle.rules.specs.Bars.{endOfPiece};
+ghost use Rattle.rules.specs.Refusals.{mostEvents, largestDelta};
+ghost use Rattle.laws.specs.Admitted.{Admitted};
+ghost use Rattle.words.specs.Track.{Track, eventsOf};
+ghost use Rattle.ends.specs.Pass.{trackEnd, reached, begin, finish, step, endOf, Within};
+ghost use Rattle.ends.specs.Sofar.{taken};
+
+// A pass over a track's events: the tick reached, the starts so far, how many of them an off has ended, and the largest end.
+struct Pass {
+    tick: u64,
+    started: u32,
+    ended: u32,
+    end: u64,
+}
+
+fn larger(a: u64, b: u64) -> u64
+    ensures { λ r. ⌜ r ≡ max a b ⌝ }
+{
+    if a < b { b } else { a }
+}
+
+// A start at a tick: its note ends at the next tick or later.
+fn begin(counts: &mut [[u32; 128]; 16], p: Pass, tick: u64, c: usize, k: usize) -> Pass
+    requires { ⌜ (c < 16) × (k < 128) × (tick ≤ 2 * (mostEvents * largestDelta)) × Within mostEvents (reached (now counts) p) ⌝ }
+    ensures { λ r. ⌜ reached (now (counts .exit)) r ≡ begin (reached (now (counts .entry)) p) tick c k ⌝ }
+{
+    counts[c][k] += 1;
+    Pass {
+        tick,
+        started: p.started + 1,
+        ended: p.ended,
+        end: larger(p.end, tick + 1),
+    }
+}
+
+// An off at a tick. With nothing pending it makes no note.
+fn finish(counts: &mut [[u32; 128]; 16], p: Pass, tick: u64, c: usize, k: usize) -> Pass
+    requires { ⌜ (c < 16) × (k < 128) × Within mostEvents (reached (now counts) p) ⌝ }
+    ensures { λ r. ⌜ reached (now (counts .exit)) r ≡ finish (reached (now (counts .entry)) p) tick c k ⌝ }
+{
+    if counts[c][k] == 0 {
+        return Pass {
+            tick,
+            started: p.started,
+            ended: p.ended,
+            end: p.end,
+        };
+    }
+    counts[c][k] -= 1;
+    Pass {
+        tick,
+        started: p.started,
+        ended: p.ended + 1,
+        end: larger(p.end, tick),
+    }
+}
+
+fn step(counts: &mut [[u32; 128]; 16], p: Pass, delta: u32, word: u32) -> Pass
+    requires { ⌜ (delta ≤ largestDelta) × (wellFormed word ≡ true) × Within mostEvents (reached (now counts) p) ⌝ }
+    ensures { λ r. ⌜ reached (now (counts .exit)) r ≡ step (reached (now (counts .entry)) p) (p .tick + delta) word ⌝ }
+{
+    let tick = p.tick + delta as u64;
+    let w = words::take_apart(word);
+    if words::is_on(word) {
+        return begin(counts, p, tick, w.a as usize, w.b as usize);
+    }
+    if words::is_off(word) {
+        return finish(counts, p, tick, w.a as usize, w.b as usize);
+    }
+    Pass {
+        tick,
+        started: p.started,
+        ended: p.ended,
+        end: p.end,
+    }
+}
+
+// Starts still pending end at the last tick.
+fn end_of(p: Pass) -> u64
+    ensures { λ r. ⌜ r ≡ endOf p ⌝ }
+{
+    if p.ended < p.started {
+        larger(p.end, p.tick)
+    } else {
+        p.end
+    }
+}
+
+// The largest end of a track's raw notes, 0 where it has none.
+pub fn end_of_track(deltas: &[u32], words: &[u32]) -> u64
+    requires { ⌜ Track (now deltas) (now words) ⌝ }
+    ensures { λ r. ⌜ r ≡ trackEnd (eventsOf (now (deltas .entry)) (now (words .entry))) ⌝ }
+{
+    let mut counts = [[0u32; 128]; 16];
+    let mut p = Pass {
+        tick: 0,
+        started: 0,
+        ended: 0,
+        end: 0,
+    };
+    let mut i = 0;
+    while i < deltas.len() {
+        p = step(&mut counts, p, deltas[i], words[i]);
+        i += 1;
+    }
+    end_of(p)
+}
+
+// The parts so far, and the largest end of their notes.
+struct Sofar {
+    parts: u32,
+    end: u64,
+}
+
+// One track more, which ends at e: it is no part where it has no notes.
+fn taken(s: Sofar, e: u64) -> Sofar
+    requires { ⌜ s .parts < mostParts ⌝ }
+    ensures { λ r. ⌜ r ≡ taken s e ⌝ }
+{
+    if e == 0 {
+        return s;
+    }
+    Sofar {
+        parts: s.parts + 1,
+        end: larger(s.end, e),
+    }
+}
+
+fn wide(x: u32) -> usize
+    ensures { λ r. ⌜ r ≡ x ⌝ }
+{
+    x as usize
+}
+
+// The largest raw end of all parts, the first 32 tracks that have notes.
+pub fn end_of_piece(sizes: &[u32], deltas: &[u32], words: &[u32]) -> u64
+    requires { ⌜ Admitted (piece (now sizes) (now deltas) (now words)) ⌝ }
+    ensures { λ r. ⌜ r ≡ endOfPiece (piece (now (sizes .entry)) (now (deltas .entry)) (now (words .entry))) ⌝ }
+{
+    let mut s = Sofar { parts: 0, end: 0 };
+    let mut from = 0;
+    let mut i = 2;
+    while i < sizes.len() {
+        if s.parts == 32 {
+            return s.end;
+        }
+        let to = from + wide(sizes[i]);
+        s = taken(s, end_of_track(&deltas[from..to], &words[from..to]));
+        from = to;
+        i += 1;
+    }
+    s.end
+}
