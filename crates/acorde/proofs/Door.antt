@@ -6,10 +6,10 @@ use mathlib.Core.Path.{_≡_, refl, sym, _∙_}
 use native.Mathlib.Nat.{pos-of-ne-zero}
 use native.Mathlib.Omega.{arith}
 use borrow.Author.Tests.{le-leb, lt-leb}
-use lib.ListN.{length}
-use Rattle.rules.specs.Lists.{isEmpty}
-use Rattle.rules.specs.Piece.{Piece}
-use Rattle.rules.specs.RawNotes.{parts, mostNotes}
+use lib.ListN.{length, length-take}
+use Rattle.rules.specs.Lists.{isEmpty, keep}
+use Rattle.rules.specs.Piece.{Piece, tracks}
+use Rattle.rules.specs.RawNotes.{mostParts, hasNotes, parts, mostNotes}
 use Rattle.rules.specs.Refusals.{Result, refused, given, Refusal, refuse, firstNumber, unless, pieceRefusals, noteRefusals, partRefusals}
 use Rattle.laws.specs.Admitted.{Passes, Admitted}
 use Rattle.laws.proofs.Lists.{All-append, All-left}
@@ -72,6 +72,9 @@ module _ (x : Piece) where
 
     pub door-admits : e .number ≡ 0 → Admitted x
     door-admits z = admitted x (All-left _ (pieceRefusals x) _ (door-passes z))
+
+    pub few-parts : e .number ≡ 0 → e .parts ≤ mostParts
+    few-parts z = omega (arith, entered .parts z, length-take mostParts (keep hasNotes (tracks x)))
 
     -- whatever the call refuses after 1 to 6 decides
     pub door-after : {A : Type 0} (ss : List Refusal) (a : A) → e .number ≡ 0 → unless (noteRefusals x ++ ss) a ≡ unless ss a

@@ -1,6 +1,8 @@
 -- What is answered of a head, from what reading it ensures.
 use Prim.Native.Nat.{ℕ}
 use mathlib.Core.Bool.{Bool, true, false, cond}
+use lib.IntN.{pos}
+use Rattle.rules.specs.Lists.{flag}
 use mathlib.Core.Option.{none, some}
 use mathlib.Core.List.{List}
 use mathlib.Core.Path.{_≡_, refl, sym, ap, _∙_}
@@ -16,6 +18,7 @@ use Rattle.changes.specs.Heads.{HeadIs, PartHeadIs}
 use Rattle.changes.specs.declared.PartHead.{PartHead}
 use Rattle.changes.specs.declared.Head.{Head}
 use Rattle.acorde.specs.Answers.{headOf}
+use Rattle.acorde.specs.Entries.{headValues, headEntry}
 
 pub head-given : (h : rules.Head) (r : Head) → HeadIs h r → headOf r ≡ h
 head-given h r is =
@@ -33,3 +36,11 @@ part-given ds ws {es} {r} {h} s is =
       channel = (is .channel d same ∙ ap (λ l. partHead l .channel) (s .events)) i;
       program = (is .program d same ∙ ap (λ l. partHead l .program) (s .events)) i;
     })
+
+-- the struct's entry is the head's, where a key that is absent has its fields 0
+pub head-entry : (h : Head) → (h .«has_key» ≡ false → (h .fifths ≡ pos 0) × (h .minor ≡ false)) → headValues h ≡ headEntry (given (headOf h))
+head-entry h absent = go (h .«has_key») refl
+  where
+    go : (t : Bool) → h .«has_key» ≡ t → headValues h ≡ headEntry (given (headOf h))
+    go true e = rw e
+    go false e = rw (e, absent e .0, absent e .1)

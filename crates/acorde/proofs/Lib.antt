@@ -1,2 +1,3 @@
+pub mod BarOutcomes
 pub mod Door
 pub mod Heads

@@ -1,22 +1,24 @@
 -- What each answer means: its number, or the values that document 01 asks for.
 use Prim.Native.Nat.{ℕ, _≤_, _<_}
 use mathlib.Core.Bool.{Bool, true, false, cond}
-use mathlib.Core.List.{List, []}
+use mathlib.Core.List.{List, [], _∷_}
 use mathlib.Core.Option.{none, some}
 use mathlib.Core.Path.{_≡_}
 use lib.IntN.{pos}
 use lib.ListN.{length}
 use Rattle.rules.specs.Changes as rules
-use Rattle.rules.specs.Piece.{Piece}
+use Rattle.rules.specs.Piece.{Piece, Event}
 use Rattle.rules.specs.RawNotes.{parts, mostNotes}
-use Rattle.rules.specs.Refusals.{Result, refused, given, firstNumber, noteRefusals}
-use Rattle.rules.specs.Calls.{headCall, partCountCall, partHeadCall}
+use Rattle.rules.specs.Refusals.{Result, refused, given, unless, firstNumber, noteRefusals, shortOutput}
+use Rattle.rules.specs.Bars.{barsIn, startsOf, marksIn, mostBars}
+use Rattle.rules.specs.Calls.{headCall, BarLists}
 use Rattle.changes.specs.declared.Head as changes
 use Rattle.changes.specs.declared.PartHead as part
 use Rattle.acorde.specs.declared.Entry.{Entry}
 use Rattle.acorde.specs.declared.HeadAnswer as head
 use Rattle.acorde.specs.declared.PartCountAnswer as count
 use Rattle.acorde.specs.declared.PartHeadAnswer as part-head
+use Rattle.acorde.specs.declared.BarsAnswer as bars-answer
 
 -- A piece at the door: the first of 1 to 6 that applies, else 0; then how many parts it has, and N.
 pub record Entered (x : Piece) (r : Entry) : Type 0 where
@@ -53,3 +55,16 @@ countAnswer (count.the-variants.Given n) = given n
 abbrev pub partHeadAnswer : part-head.PartHeadAnswer → Result rules.PartHead
 partHeadAnswer (part-head.the-variants.Refused n) = refused n
 partHeadAnswer (part-head.the-variants.Given h) = given (record { channel = h .channel; program = h .program })
+
+abbrev pub barsAnswer : bars-answer.BarsAnswer → Result ℕ
+barsAnswer (bars-answer.the-variants.Refused n) = refused n
+barsAnswer (bars-answer.the-variants.Given n) = given n
+
+-- what writing the bars of a first track comes to, with this room: 8 is all that is left to refuse
+abbrev pub barsOutcome : List Event → ℕ → ℕ → ℕ → ℕ → Result BarLists
+barsOutcome es p end room-starts room-marks =
+    unless
+    (shortOutput room-starts (startsOf (barsIn mostBars p es end))
+    ∷ shortOutput room-marks (marksIn es (barsIn mostBars p es end))
+    ∷ [])
+    (record { starts = startsOf (barsIn mostBars p es end); marks = marksIn es (barsIn mostBars p es end) })

@@ -1,8 +1,14 @@
 // The calls of the import. None asks anything of its caller: any arrays at all give an answer or one of document 01's numbers.
 ghost use mathlib.Core.Path.{_≡_};
 ghost use Rattle.rules.specs.Piece.{piece};
-ghost use Rattle.rules.specs.Calls.{partCountCall, partHeadCall};
-ghost use Rattle.acorde.specs.Answers.{Entered, HeadCalled, countAnswer, partHeadAnswer};
+ghost use Rattle.rules.specs.Calls.{partCountCall, partHeadCall, barsCall, BarsCalled};
+ghost use Rattle.words.specs.Track.{eventsOf};
+ghost use Rattle.bars.specs.Walk.{CanWalk};
+ghost use lib.ListN.{length};
+ghost use Rattle.acorde.specs.Answers.{Entered, HeadCalled, countAnswer, partHeadAnswer, barsAnswer, barsOutcome};
+
+mod entries;
+
 use changes::Head;
 use changes::PartHead;
 
@@ -61,7 +67,7 @@ pub fn head(sizes: &[u32], deltas: &[u32], words: &[u32]) -> HeadAnswer
 
 pub enum PartCountAnswer {
     Refused(u32),
-    Given(usize),
+    Given(u32),
 }
 
 // How many parts a piece has, 1 to 32. Refusals 1 to 6.
@@ -72,7 +78,7 @@ pub fn part_count(sizes: &[u32], deltas: &[u32], words: &[u32]) -> PartCountAnsw
     if entry.number != 0 {
         return PartCountAnswer::Refused(entry.number);
     }
-    PartCountAnswer::Given(entry.parts)
+    PartCountAnswer::Given(entry.parts as u32)
 }
 
 pub enum PartHeadAnswer {
@@ -96,4 +102,61 @@ pub fn part_head(sizes: &[u32], deltas: &[u32], words: &[u32], part: u32) -> Par
     let from = track.from;
     let to = track.to;
     PartHeadAnswer::Given(changes::extract_program(&words[from..to]))
+}
+
+// The most bars of an import.
+const MOST_BARS: usize = 10000;
+
+pub enum BarsAnswer {
+    Refused(u32),
+    Given(u32),
+}
+
+// The bars of a first track up to the end tick, counted before they are written.
+fn write_bars(
+    p: u64,
+    deltas: &[u32],
+    words: &[u32],
+    end: u64,
+    starts: &mut [u64],
+    marks: &mut [u64],
+) -> BarsAnswer
+    requires { ⌜ CanWalk (now deltas) (now words) p end ⌝ }
+    ensures { λ r. ⌜ BarsCalled
+        (barsOutcome (eventsOf (now (deltas .entry)) (now (words .entry))) p end (length (now (starts .entry))) (length (now (marks .entry))))
+        (now (starts .entry)) (now (marks .entry)) (barsAnswer r) (now (starts .exit)) (now (marks .exit)) ⌝ }
+{
+    let count = bars::count_bars(p, deltas, words, end, MOST_BARS);
+    if starts.len() < count {
+        return BarsAnswer::Refused(8);
+    }
+    if marks.len() < count {
+        return BarsAnswer::Refused(8);
+    }
+    bars::midi_bars(p, deltas, words, end, MOST_BARS, starts, marks);
+    BarsAnswer::Given(count as u32)
+}
+
+// The bars of a piece: how many, their starts and their marks. Refusals 1 to 6, 8.
+pub fn bars(
+    sizes: &[u32],
+    deltas: &[u32],
+    words: &[u32],
+    starts: &mut [u64],
+    marks: &mut [u64],
+) -> BarsAnswer
+    ensures { λ r. ⌜ BarsCalled
+        (barsCall (piece (now (sizes .entry)) (now (deltas .entry)) (now (words .entry))) (length (now (starts .entry))) (length (now (marks .entry))))
+        (now (starts .entry)) (now (marks .entry)) (barsAnswer r) (now (starts .exit)) (now (marks .exit)) ⌝ }
+{
+    let entry = enter(sizes, deltas, words);
+    if entry.number != 0 {
+        return BarsAnswer::Refused(entry.number);
+    }
+    let p = piece::ticks_per_quarter(sizes);
+    let end = ends::end_of_piece(sizes, deltas, words);
+    let track = piece::first_track(sizes);
+    let from = track.from;
+    let to = track.to;
+    write_bars(p, &deltas[from..to], &words[from..to], end, starts, marks)
 }

@@ -1,16 +1,20 @@
 -- Section 3's values: a tempo is 1 to 999, a lower figure is not 0, and fifths, clamped, are -7 to 7.
-use Prim.Native.Nat.{ℕ, suc, _+_, _-_, _%_, _/_, _≤_, _<_, min, max}
-use mathlib.Core.Bool.{true, false, cond}
+use Prim.Native.Nat.{ℕ, suc, _-_, _≤_, _<_}
+use mathlib.Core.Bool.{cond}
 use mathlib.Core.List.{List, [], _∷_}
 use mathlib.Core.Logic.{inl, inr}
-use mathlib.Core.Path.{_≡_, refl}
+use mathlib.Core.Path.{_≡_}
 use native.Mathlib.Nat.{sub-zero}
 use native.Mathlib.Omega.{arith}
+use borrow.Author.Needs.{sfits-of}
 use borrow.Author.Tests.{lt-ltb, le-ltb}
 use lib.Dec.{T, ltb, eqb}
 use lib.IntN.{ℤ, pos, negsuc, subℕ, natAbs, _+ℤ_}
 use lib.Pow.{pow-pos}
-use lib.Signed.{nonNeg}
+use lib.Signed.{nonNeg, pos-natAbs}
+use mir.Facts.{sfits-lit}
+use mir.Syntax.{w32}
+use mir.Val.{SFits}
 use Rattle.rules.specs.Lists.{keep, firstOr, All}
 use Rattle.rules.specs.Piece.{Event, isKind, byteB, lowerFigure}
 use Rattle.rules.specs.Changes.{Meter, tempoOf, clampFifths, commonTime, meterChanges, atZero, firstMeter}
@@ -79,3 +83,11 @@ fifths-shifted (negsuc n) =
       | inl h ↦ rw (lt-ltb 6 n h) (record { sign = tt; low = omega arith; high = omega arith })
       | inr h ↦ rw (le-ltb 6 n h, le-ltb 8 (suc n) (omega arith)) (record { sign = tt; low = omega arith; high = omega arith })
     ]
+
+-- both fit a signed integer of 32 bits
+pub fifths-fit : (z : ℤ) → SFits w32 (clampFifths z)
+fifths-fit (pos n) = elim (by-lt 7 n) [ inl h ↦ rw (lt-ltb 7 n h) (sfits-lit tt) | inr h ↦ rw (le-ltb 7 n h) (sfits-of (omega arith)) ]
+fifths-fit (negsuc n) = elim (by-lt 6 n) [ inl h ↦ rw (lt-ltb 6 n h) (sfits-lit tt) | inr h ↦ rw (le-ltb 6 n h) (sfits-of (omega arith)) ]
+
+pub shifted-fit : (z : ℤ) → SFits w32 (clampFifths z +ℤ pos 8)
+shifted-fit z = let s = fifths-shifted z in rw (← pos-natAbs (clampFifths z +ℤ pos 8) (s .sign)) (sfits-of (omega arith))

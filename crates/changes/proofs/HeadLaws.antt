@@ -3,21 +3,20 @@ use Prim.Native.Nat.{ℕ, suc, _+_, _≤_, _<_}
 use mathlib.Core.Bool.{Bool, true, false, cond, true≢false}
 use mathlib.Core.List.{List, [], _∷_, map, head?}
 use mathlib.Core.Logic.{inl, inr}
-use mathlib.Core.Option.{Option, none, some}
+use mathlib.Core.Option.{none, some}
 use mathlib.Core.Path.{_≡_, refl, sym, ap, _∙_}
 use native.Mathlib.Omega.{arith}
-use borrow.Author.Tests.{eq-eqb, ne-eqb}
+use borrow.Author.Tests.{ne-eqb}
 use lib.Dec.{eqb}
 use lib.IntN.{pos}
 use lib.ListN.{length, getD, drop}
 use Rattle.rules.specs.Lists.{keep, firstOr, All}
-use Rattle.rules.specs.Piece.{Event, timed, kindOf, isKind, tempoValue}
+use Rattle.rules.specs.Piece.{Event, timed, kindOf, tempoValue}
 use Rattle.rules.specs.Changes.{Change, Meter, Key, tempoChanges, meterChanges, keyChanges, atZero, firstTempo, firstMeter, firstKey, keyIfAtZero, headIn}
 use Rattle.laws.proofs.Order.{by-bool, by-eq}
 use Rattle.laws.proofs.Lists.{All-map, All-keep}
 use Rattle.words.specs.Track.{left}
 use Rattle.words.proofs.Tracks.{left-cons}
-use Rattle.changes.specs.declared.Head.{Head}
 use Rattle.changes.specs.declared.Reading.{Reading}
 use Rattle.changes.specs.Heads.{HeadIs}
 use Rattle.changes.specs.Reads.{nothingRead, tookTempo, tookMeter, tookKey, took, headRead}

@@ -1,5 +1,5 @@
 // Section 3: tempo, meter and key changes, the head of a piece and the head of a part.
-ghost use Prim.Native.Nat.{ℕ, _<_};
+ghost use Prim.Native.Nat.{_<_};
 ghost use mathlib.Core.Path.{_≡_};
 ghost use mathlib.Core.Bool.{true};
 ghost use Rattle.rules.specs.Piece.{byteB, lowerFigure, signedFifths, wellFormed};

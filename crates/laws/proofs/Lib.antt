@@ -7,6 +7,7 @@ pub mod Folds
 pub mod KeyBits
 pub mod Lists
 pub mod Loops
+pub mod NoteRanges
 pub mod Notes
 pub mod Order
 pub mod Parts

@@ -1,5 +1,4 @@
 -- `lower_of` answers the lower figure: the shift by a power below 32 loses no bit.
-use mathlib.Core.Path.{_∙_, ap}
 use native.Mathlib.Nat.{one-mul, mod-eq-of-lt}
 use borrow.Author.Needs.{needs}
 use lib.Pow.{pow-lt}

@@ -1,9 +1,8 @@
 -- `read_head` answers the head. The loop's invariant: what is read, with the events left from `i` on, gives the head of the track.
 use Prim.Native.Nat.{_≤_, _<_, _-_}
-use mathlib.Core.Path.{_≡_}
 use native.Mathlib.Omega.{arith}
 use borrow.Author.Needs.{needs}
-use lib.ListN.{length, getD}
+use lib.ListN.{length}
 use Rattle.words.specs.Track.{eventsOf, left}
 use Rattle.words.proofs.Tracks.{formed-at, left-none}
 use Rattle.changes.proofs.HeadLaws.{Reads, reads-start, reads-next, reads-end, left-late}
@@ -28,9 +27,6 @@ returns c =
     let here : at .i < length ds = omega arith in
     let there : at .i < length ws = omega (arith, given .pre .same) in
     rw (c .done .ensures) (reads-end _ _ (left-late ds ws (at .i) here there (c .before .if1 .taken)) (at .read) (at .inv .1))
-
-shared-slice-read-take : tie.Need-shared-slice-read-take Inv-loop μ-loop
-shared-slice-read-take c = omega (arith, c .before .before .before .before .before .before .before .before .pre .same)
 
 take-requires : tie.Need-take-requires Inv-loop μ-loop
 take-requires c κs =
@@ -69,7 +65,7 @@ read-head-spec =
     (λ c κs. search needs)
     returns
     (λ c. omega arith)
-    shared-slice-read-take
+    (λ c. omega (arith, c .before .before .before .before .before .before .before .before .pre .same))
     take-requires
     (λ c. omega arith)
     (λ c. omega arith)

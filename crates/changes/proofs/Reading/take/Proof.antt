@@ -7,9 +7,6 @@ use Rattle.changes.specs.Reads.{took}
 use Rattle.changes.proofs.Reading.take.Statement.{statement}
 use Rattle.changes.proofs.Reading.take.Tie as tie
 
-take-meter-requires : tie.Need-take-meter-requires
-take-meter-requires c κs = omega (arith, meter-bounds (c .before .args .word) (c .before .pre) (c .match .keys2))
-
 returns : tie.Need-returns
 unfolding took
 returns c = rw (c .before .match .keys1) (c .take-tempo .ensures)
@@ -33,7 +30,7 @@ take-spec =
     tie.close
     (tie.spec
     (λ c κs. search needs)
-    take-meter-requires
+    (λ c κs. omega (arith, meter-bounds (c .before .args .word) (c .before .pre) (c .match .keys2)))
     (λ c κs. search needs)
     returns
     returns-2

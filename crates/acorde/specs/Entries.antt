@@ -1,0 +1,53 @@
+-- What the entries for C answer: a number, 0 where the call is answered, and the values. Beside a refusal every value is 0.
+use Prim.Native.Nat.{ℕ}
+use mathlib.Core.Option.{Option, none, some}
+use lib.IntN.{pos}
+use mathlib.Core.List.{List}
+use mathlib.Core.Path.{_≡_}
+use lib.ListN.{length}
+use Rattle.rules.specs.Lists.{flag, written}
+use Rattle.rules.specs.Calls.{BarLists}
+use Rattle.rules.specs.Changes as rules
+use Rattle.rules.specs.Refusals.{Result, refused, given, answers, writes}
+use Rattle.changes.specs.declared.Head.{Head}
+use Rattle.acorde.specs.declared.entries.AcordeHead.{AcordeHead}
+use Rattle.acorde.specs.declared.entries.AcordeCount.{AcordeCount}
+use Rattle.acorde.specs.declared.entries.AcordePartHead.{AcordePartHead}
+
+-- the entry of a head: has_key is 1 where there is a key; where there is none, fifths and minor are 0
+abbrev pub keyEntry : ℕ → rules.Meter → Option rules.Key → AcordeHead
+keyEntry tempo m none =
+    record { number = 0; tempo = tempo; upper = m .upper; lower = m .lower; «has_key» = 0; fifths = pos 0; minor = 0 }
+keyEntry tempo m (some k) =
+    record { number = 0; tempo = tempo; upper = m .upper; lower = m .lower; «has_key» = 1; fifths = k .fifths; minor = flag (k .minor) }
+
+abbrev pub headEntry : Result rules.Head → AcordeHead
+headEntry (refused n) = record { number = n; tempo = 0; upper = 0; lower = 0; «has_key» = 0; fifths = pos 0; minor = 0 }
+headEntry (given h) = keyEntry (h .tempo) (h .meter) (h .key)
+
+-- the same, of the struct that reading the head gives
+abbrev pub headValues : Head → AcordeHead
+headValues h =
+    record {
+      number = 0;
+      tempo = h .tempo;
+      upper = h .upper;
+      lower = h .lower;
+      «has_key» = flag (h .«has_key»);
+      fifths = h .fifths;
+      minor = flag (h .minor);
+    }
+
+abbrev pub countEntry : Result ℕ → AcordeCount
+countEntry (refused n) = record { number = n; count = 0 }
+countEntry (given n) = record { number = 0; count = n }
+
+abbrev pub partHeadEntry : Result rules.PartHead → AcordePartHead
+partHeadEntry (refused n) = record { number = n; channel = 0; program = 0 }
+partHeadEntry (given h) = record { number = 0; channel = h .channel; program = h .program }
+
+-- after the entry of the bars call of outcome r
+pub record BarsEntered (r : Result BarLists) (starts₀ marks₀ : List ℕ) (answer : AcordeCount) (starts₁ marks₁ : List ℕ) : Type 0 where
+  pub answered : answer ≡ countEntry (answers (λ (b : BarLists). length (b .starts)) r)
+  pub starts : starts₁ ≡ written (writes (λ (b : BarLists). b .starts) r) starts₀
+  pub marks : marks₁ ≡ written (writes (λ (b : BarLists). b .marks) r) marks₀

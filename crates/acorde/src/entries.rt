@@ -1,0 +1,125 @@
+// The calls for C: a number beside the values, 0 where the call is answered; beside a refusal every value is 0.
+ghost use mathlib.Core.Path.{_≡_};
+ghost use Rattle.rules.specs.Lists.{flag};
+ghost use Rattle.rules.specs.Piece.{piece};
+ghost use Rattle.rules.specs.Calls.{headCall, partCountCall, partHeadCall, barsCall};
+ghost use lib.ListN.{length};
+ghost use Rattle.acorde.specs.Entries.{headValues, headEntry, countEntry, partHeadEntry, BarsEntered};
+use crate::BarsAnswer;
+use crate::HeadAnswer;
+use crate::PartCountAnswer;
+use crate::PartHeadAnswer;
+use changes::Head;
+
+#[repr(C)]
+pub struct AcordeHead {
+    pub number: u32,
+    pub tempo: u32,
+    pub upper: u32,
+    pub lower: u32,
+    pub has_key: u32,
+    pub fifths: i32,
+    pub minor: u32,
+}
+
+#[repr(C)]
+pub struct AcordeCount {
+    pub number: u32,
+    pub count: u32,
+}
+
+#[repr(C)]
+pub struct AcordePartHead {
+    pub number: u32,
+    pub channel: u32,
+    pub program: u32,
+}
+
+fn flag(b: bool) -> u32
+    ensures { λ r. ⌜ r ≡ flag b ⌝ }
+{
+    if b { 1 } else { 0 }
+}
+
+fn head_values(h: Head) -> AcordeHead
+    ensures { λ r. ⌜ r ≡ headValues h ⌝ }
+{
+    AcordeHead {
+        number: 0,
+        tempo: h.tempo,
+        upper: h.upper,
+        lower: h.lower,
+        has_key: flag(h.has_key),
+        fifths: h.fifths,
+        minor: flag(h.minor),
+    }
+}
+
+#[no_mangle]
+pub extern "C" fn acorde_head(sizes: &[u32], deltas: &[u32], words: &[u32]) -> AcordeHead
+    ensures { λ r. ⌜ r ≡ headEntry (headCall (piece (now (sizes .entry)) (now (deltas .entry)) (now (words .entry)))) ⌝ }
+{
+    match crate::head(sizes, deltas, words) {
+        HeadAnswer::Refused(number) => AcordeHead {
+            number,
+            tempo: 0,
+            upper: 0,
+            lower: 0,
+            has_key: 0,
+            fifths: 0,
+            minor: 0,
+        },
+        HeadAnswer::Given(h) => head_values(h),
+    }
+}
+
+#[no_mangle]
+pub extern "C" fn acorde_part_count(sizes: &[u32], deltas: &[u32], words: &[u32]) -> AcordeCount
+    ensures { λ r. ⌜ r ≡ countEntry (partCountCall (piece (now (sizes .entry)) (now (deltas .entry)) (now (words .entry)))) ⌝ }
+{
+    match crate::part_count(sizes, deltas, words) {
+        PartCountAnswer::Refused(number) => AcordeCount { number, count: 0 },
+        PartCountAnswer::Given(count) => AcordeCount { number: 0, count },
+    }
+}
+
+#[no_mangle]
+pub extern "C" fn acorde_part_head(
+    sizes: &[u32],
+    deltas: &[u32],
+    words: &[u32],
+    part: u32,
+) -> AcordePartHead
+    ensures { λ r. ⌜ r ≡ partHeadEntry (partHeadCall (piece (now (sizes .entry)) (now (deltas .entry)) (now (words .entry))) part) ⌝ }
+{
+    match crate::part_head(sizes, deltas, words, part) {
+        PartHeadAnswer::Refused(number) => AcordePartHead {
+            number,
+            channel: 0,
+            program: 0,
+        },
+        PartHeadAnswer::Given(h) => AcordePartHead {
+            number: 0,
+            channel: h.channel,
+            program: h.program,
+        },
+    }
+}
+
+#[no_mangle]
+pub extern "C" fn acorde_bars(
+    sizes: &[u32],
+    deltas: &[u32],
+    words: &[u32],
+    starts: &mut [u64],
+    marks: &mut [u64],
+) -> AcordeCount
+    ensures { λ r. ⌜ BarsEntered
+        (barsCall (piece (now (sizes .entry)) (now (deltas .entry)) (now (words .entry))) (length (now (starts .entry))) (length (now (marks .entry))))
+        (now (starts .entry)) (now (marks .entry)) r (now (starts .exit)) (now (marks .exit)) ⌝ }
+{
+    match crate::bars(sizes, deltas, words, starts, marks) {
+        BarsAnswer::Refused(number) => AcordeCount { number, count: 0 },
+        BarsAnswer::Given(count) => AcordeCount { number: 0, count },
+    }
+}

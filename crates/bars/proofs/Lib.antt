@@ -1,0 +1,4 @@
+pub mod ListFacts
+pub mod Outputs
+pub mod StepLaws
+pub mod WalkLaws
