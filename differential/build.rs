@@ -11,7 +11,10 @@ fn main() {
     if env::var_os("CARGO_FEATURE_LIBRARY").is_some() {
         let package = env::var("CARGO_MANIFEST_DIR").expect("cargo sets CARGO_MANIFEST_DIR");
         let folder = Path::new(&package).join("../target/staticlib");
-        println!("cargo::rerun-if-changed={}", folder.join("libacorde.a").display());
+        println!(
+            "cargo::rerun-if-changed={}",
+            folder.join("libacorde.a").display()
+        );
         println!("cargo::rustc-link-search={}", folder.display());
         println!("cargo::rustc-link-lib=static=acorde");
     }

@@ -14,7 +14,9 @@ fn same<T: PartialEq + std::fmt::Debug>(what: &str, got: T, wanted: T) -> Checke
 }
 
 fn holds(what: &str, right: bool) -> Checked {
-    right.then_some(()).ok_or_else(|| format!("{what}: another content"))
+    right
+        .then_some(())
+        .ok_or_else(|| format!("{what}: another content"))
 }
 
 /// Everything that is compared.
@@ -23,7 +25,8 @@ pub fn piece(piece: &Piece) -> Checked {
     match refused {
         Some(number) => refusal(piece, number.into()),
         None => {
-            let import = reference::import(piece).map_err(|n| format!("the reference refused {n}"))?;
+            let import =
+                reference::import(piece).map_err(|n| format!("the reference refused {n}"))?;
             heads(piece, &import)?;
             bars(piece, &import)
         }
@@ -32,10 +35,26 @@ pub fn piece(piece: &Piece) -> Checked {
 
 /// A refusal is its number alone, and no output changes.
 fn refusal(piece: &Piece, number: u32) -> Checked {
-    let none = library::Head { number, tempo: 0, upper: 0, lower: 0, has_key: 0, fifths: 0, minor: 0 };
+    let none = library::Head {
+        number,
+        tempo: 0,
+        upper: 0,
+        lower: 0,
+        has_key: 0,
+        fifths: 0,
+        minor: 0,
+    };
     same("head", library::head(piece), none)?;
-    same("part count", library::part_count(piece), library::Count { number, count: 0 })?;
-    let none = library::PartHead { number, channel: 0, program: 0 };
+    same(
+        "part count",
+        library::part_count(piece),
+        library::Count { number, count: 0 },
+    )?;
+    let none = library::PartHead {
+        number,
+        channel: 0,
+        program: 0,
+    };
     same("part head", library::part_head(piece, 0), none)?;
     bars_turned_back(piece, number, 3, 2)
 }
@@ -61,13 +80,29 @@ fn heads(piece: &Piece, import: &Import) -> Checked {
     };
     same("head", library::head(piece), wanted)?;
     let count = import.parts.len() as u32;
-    same("part count", library::part_count(piece), library::Count { number: 0, count })?;
+    same(
+        "part count",
+        library::part_count(piece),
+        library::Count { number: 0, count },
+    )?;
     for (number, part) in import.parts.iter().enumerate() {
         let (channel, program) = (part.channel.into(), part.program.into());
-        let wanted = library::PartHead { number: 0, channel, program };
-        same("part head", library::part_head(piece, number as u32), wanted)?;
+        let wanted = library::PartHead {
+            number: 0,
+            channel,
+            program,
+        };
+        same(
+            "part head",
+            library::part_head(piece, number as u32),
+            wanted,
+        )?;
     }
-    let none = library::PartHead { number: 7, channel: 0, program: 0 };
+    let none = library::PartHead {
+        number: 7,
+        channel: 0,
+        program: 0,
+    };
     same("part head", library::part_head(piece, count), none)?;
     same("part head", library::part_head(piece, u32::MAX), none)
 }
@@ -79,7 +114,14 @@ fn bars(piece: &Piece, import: &Import) -> Checked {
     for (starts, marks) in [(count + 3, count + 1), (count, count)] {
         let (mut a, mut b) = (library::lent64(starts), library::lent64(marks));
         let answer = library::bars(piece, &mut a, &mut b);
-        same("bars", answer, library::Count { number: 0, count: count as u32 })?;
+        same(
+            "bars",
+            answer,
+            library::Count {
+                number: 0,
+                count: count as u32,
+            },
+        )?;
         holds("starts", a.holds(&wanted.starts))?;
         holds("marks", b.holds(&wanted.marks))?;
     }
@@ -91,7 +133,9 @@ fn bars(piece: &Piece, import: &Import) -> Checked {
 pub fn shrunk(first: &Piece) -> Piece {
     let mut best = first.clone();
     loop {
-        let smaller = candidates(&best).into_iter().find(|candidate| piece(candidate).is_err());
+        let smaller = candidates(&best)
+            .into_iter()
+            .find(|candidate| piece(candidate).is_err());
         match smaller {
             Some(smaller) => best = smaller,
             None => return best,
@@ -115,7 +159,10 @@ fn candidates(piece: &Piece) -> Vec<Piece> {
             for from in (0..tracks[index].len()).step_by(run) {
                 let mut fewer = tracks.clone();
                 let to = (from + run).min(fewer[index].len());
-                let delta = fewer[index].drain(from..to).map(|event| event.0).sum::<u32>();
+                let delta = fewer[index]
+                    .drain(from..to)
+                    .map(|event| event.0)
+                    .sum::<u32>();
                 if let Some(event) = fewer[index].get_mut(from) {
                     event.0 = event.0.saturating_add(delta).min(268_435_455);
                 }

@@ -3,6 +3,8 @@
 
 pub mod answers;
 #[cfg(feature = "library")]
+pub mod bench;
+#[cfg(feature = "library")]
 pub mod compare;
 pub mod coverage;
 pub mod examples;

@@ -79,17 +79,45 @@ pub fn lent64(room: usize) -> Lent<u64> {
 
 pub fn head(p: &Piece) -> Head {
     let (s, d, w) = (&p.sizes, &p.deltas, &p.words);
-    unsafe { acorde_head(s.as_ptr(), s.len(), d.as_ptr(), d.len(), w.as_ptr(), w.len()) }
+    unsafe {
+        acorde_head(
+            s.as_ptr(),
+            s.len(),
+            d.as_ptr(),
+            d.len(),
+            w.as_ptr(),
+            w.len(),
+        )
+    }
 }
 
 pub fn part_count(p: &Piece) -> Count {
     let (s, d, w) = (&p.sizes, &p.deltas, &p.words);
-    unsafe { acorde_part_count(s.as_ptr(), s.len(), d.as_ptr(), d.len(), w.as_ptr(), w.len()) }
+    unsafe {
+        acorde_part_count(
+            s.as_ptr(),
+            s.len(),
+            d.as_ptr(),
+            d.len(),
+            w.as_ptr(),
+            w.len(),
+        )
+    }
 }
 
 pub fn part_head(p: &Piece, part: u32) -> PartHead {
     let (s, d, w) = (&p.sizes, &p.deltas, &p.words);
-    unsafe { acorde_part_head(s.as_ptr(), s.len(), d.as_ptr(), d.len(), w.as_ptr(), w.len(), part) }
+    unsafe {
+        acorde_part_head(
+            s.as_ptr(),
+            s.len(),
+            d.as_ptr(),
+            d.len(),
+            w.as_ptr(),
+            w.len(),
+            part,
+        )
+    }
 }
 
 pub fn bars(p: &Piece, starts: &mut Lent<u64>, marks: &mut Lent<u64>) -> Count {
@@ -97,8 +125,16 @@ pub fn bars(p: &Piece, starts: &mut Lent<u64>, marks: &mut Lent<u64>) -> Count {
     let (a, b) = (starts.lend(), marks.lend());
     unsafe {
         acorde_bars(
-            s.as_ptr(), s.len(), d.as_ptr(), d.len(), w.as_ptr(), w.len(),
-            a.as_mut_ptr(), a.len(), b.as_mut_ptr(), b.len(),
+            s.as_ptr(),
+            s.len(),
+            d.as_ptr(),
+            d.len(),
+            w.as_ptr(),
+            w.len(),
+            a.as_mut_ptr(),
+            a.len(),
+            b.as_mut_ptr(),
+            b.len(),
         )
     }
 }

@@ -14,6 +14,7 @@ const USAGE: &str = "usage: differential COMMAND
   generate SEED COUNT  the reference over generated pieces
   piece SEED INDEX     one generated piece
   compare SEED COUNT [SECONDS]  the proved library against the reference (feature `library`)
+  bench                         times of both (feature `library`)
 A piece is three lines of decimals: sizes, deltas, words.";
 
 fn main() -> ExitCode {
@@ -29,6 +30,11 @@ fn main() -> ExitCode {
             print!("{}", generate::numbered(seed, number(index)?).print());
             Ok(())
         }),
+        #[cfg(feature = "library")]
+        ["bench"] => {
+            differential::bench::bars();
+            Ok(())
+        }
         #[cfg(feature = "library")]
         ["compare", seed, count, ref seconds @ ..] if seconds.len() < 2 => {
             let limit = seconds.first().map_or(Ok(u64::MAX), |word| number(word));
@@ -109,7 +115,10 @@ fn compare(seed: u64, count: u64, seconds: u64) -> Result<(), String> {
     let begun = std::time::Instant::now();
     for index in 0..count {
         if index % 100_000 == 0 && index > 0 {
-            println!("{index} pieces of seed {seed} agree, {} s", begun.elapsed().as_secs());
+            println!(
+                "{index} pieces of seed {seed} agree, {} s",
+                begun.elapsed().as_secs()
+            );
         }
         if begun.elapsed().as_secs() >= seconds {
             println!("{index} pieces of seed {seed} agree; the time is over");
@@ -118,10 +127,18 @@ fn compare(seed: u64, count: u64, seconds: u64) -> Result<(), String> {
         let piece = generate::numbered(seed, index);
         if let Err(what) = differential::compare::piece(&piece) {
             let small = differential::compare::shrunk(&piece);
-            let why = differential::compare::piece(&small).err().unwrap_or_default();
-            return Err(format!("piece {seed} {index}: {what}\nsmallest:\n{}{why}", small.print()));
+            let why = differential::compare::piece(&small)
+                .err()
+                .unwrap_or_default();
+            return Err(format!(
+                "piece {seed} {index}: {what}\nsmallest:\n{}{why}",
+                small.print()
+            ));
         }
     }
-    println!("{count} pieces of seed {seed} agree, {} s", begun.elapsed().as_secs());
+    println!(
+        "{count} pieces of seed {seed} agree, {} s",
+        begun.elapsed().as_secs()
+    );
     Ok(())
 }

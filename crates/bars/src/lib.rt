@@ -91,7 +91,7 @@ impl Walker {
     {
         self.tick += delta as u64;
         self.at += 1;
-        let k = word / 16777216;
+        let k = words::kind_of(word);
         match k {
             2 => self.take_tempo(word),
             3 => self.take_meter(word),

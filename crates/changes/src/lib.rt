@@ -44,7 +44,7 @@ pub fn lower_of(w: u32) -> u32
     requires { ⌜ byteB w < 32 ⌝ }
     ensures { λ r. ⌜ r ≡ lowerFigure w ⌝ }
 {
-    let power = w / 256 % 256;
+    let power = words::byte_b(w);
     1u32 << power
 }
 
@@ -52,7 +52,7 @@ pub fn lower_of(w: u32) -> u32
 pub fn fifths_of(w: u32) -> i32
     ensures { λ r. ⌜ r ≡ clampFifths (signedFifths w) ⌝ }
 {
-    let a = w / 65536 % 256;
+    let a = words::byte_a(w);
     if a < 8 {
         return a as i32;
     }
@@ -140,7 +140,7 @@ impl Reading {
         requires { ⌜ wellFormed word ≡ true ⌝ }
         ensures { λ r. ⌜ r ≡ took self word ⌝ }
     {
-        let k = word / 16777216;
+        let k = words::kind_of(word);
         match k {
             2 => self.take_tempo(word),
             3 => self.take_meter(word),

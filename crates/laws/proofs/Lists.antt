@@ -180,3 +180,14 @@ module _ {A B : Type 0} where
     pub Some-map : (f : A → B) → ((x : A) → P x → Q (f x)) → {xs : List A} → Some P xs → Some Q (map f xs)
     Some-map f h (here {x = x} p) = here (h x p)
     Some-map f h (later s) = later (Some-map f h s)
+
+-- ---- those that pass a test
+
+module _ {A : Type 0} (f : A → Bool) where
+  pub keep-passes : (xs : List A) → All (λ x. f x ≡ true) (keep f xs)
+  keep-passes xs = All-imp (λ x h. h .1) (keep f xs) (All-keep (λ x. Unit {0}) f xs (All-all (λ x. tt) xs))
+
+  pub keep-append : (xs ys : List A) → keep f (xs ++ ys) ≡ keep f xs ++ keep f ys
+  unfolding keep
+  keep-append [] ys = refl
+  keep-append (x ∷ xs) ys = elim (by-bool (f x)) [ inl t ↦ rw (t, keep-append xs ys) | inr t ↦ rw t (keep-append xs ys) ]

@@ -2,7 +2,7 @@
 ghost use mathlib.Core.Path.{_≡_};
 ghost use mathlib.Core.Bool.{_&&_};
 ghost use lib.Dec.{leb};
-ghost use Rattle.rules.specs.Piece.{wellFormed, isOn, isOff, tempoValue};
+ghost use Rattle.rules.specs.Piece.{kindOf, byteA, byteB, wellFormed, isOn, isOff, tempoValue};
 ghost use Rattle.words.specs.Track.{IsWord};
 
 // A word's four bytes, from the top.
@@ -23,6 +23,25 @@ pub fn take_apart(w: u32) -> Word
         b: w / 256 % 256,
         c: w % 256,
     }
+}
+
+// A word's kind, and its bytes a and b alone.
+pub fn kind_of(w: u32) -> u32
+    ensures { λ r. ⌜ r ≡ kindOf w ⌝ }
+{
+    take_apart(w).kind
+}
+
+pub fn byte_a(w: u32) -> u32
+    ensures { λ r. ⌜ r ≡ byteA w ⌝ }
+{
+    take_apart(w).a
+}
+
+pub fn byte_b(w: u32) -> u32
+    ensures { λ r. ⌜ r ≡ byteB w ⌝ }
+{
+    take_apart(w).b
 }
 
 // Whether a, b and c are at most these limits.

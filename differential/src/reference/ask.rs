@@ -147,6 +147,44 @@ fn plain_import(score: Score, bytes: &[u8]) -> Import {
     }
 }
 
+/// How long the reference takes for the bars and their marks alone, its parsed file given.
+pub fn time_bars(piece: &Piece) -> std::time::Duration {
+    let bytes = midly::record(&piece.sizes, &piece.deltas, &piece.words);
+    let smf = Smf::parse(&bytes).expect("a record is read");
+    let begun = std::time::Instant::now();
+    let (tempos, meters) = super::collect_meta_changes(&smf.tracks[0]);
+    let keys = super::collect_key_changes(&smf.tracks[0]);
+    let first = meters.iter().find(|change| change.0 == 0);
+    let initial = first.map_or(
+        super::TimeSignature {
+            numerator: 4,
+            denominator: 4,
+        },
+        |change| change.1.clone(),
+    );
+    let parts = raw_parts(&smf);
+    let end = parts
+        .iter()
+        .flatten()
+        .map(|note| note.end)
+        .max()
+        .expect("a part has notes");
+    let bars = transcribe::midi_bars(
+        ticks_per_quarter(&smf),
+        &initial,
+        &meters,
+        end,
+        MAX_MEASURES,
+    );
+    let mut measures: Vec<_> = bars
+        .iter()
+        .map(|_| acorde_core::Measure::empty(4, 4))
+        .collect();
+    transcribe::apply_bar_changes(&mut measures, &bars, &tempos, &keys);
+    std::hint::black_box(&measures);
+    begun.elapsed()
+}
+
 /// Starts and lengths by `midi_bars`, marks from the measures; every part has the same.
 fn plain_bars(score: &Score, bytes: &[u8]) -> Vec<Bar> {
     let smf = Smf::parse(bytes).expect("a record is read");

@@ -9,7 +9,7 @@ mod serialize {
     include!(concat!(env!("OUT_DIR"), "/serialize.rs"));
 }
 
-pub use ask::{answers, beats, diagnostics, import, spelling, voices};
+pub use ask::{answers, beats, diagnostics, import, spelling, time_bars, voices};
 pub use voices::{Chord, Voices};
 
 // The names that the reference's own file imports.

@@ -6,7 +6,7 @@ use Rattle.changes.proofs.lower_of.Statement.{statement}
 use Rattle.changes.proofs.lower_of.Tie as tie
 
 returns : tie.Need-returns
-returns c = rw one-mul (mod-eq-of-lt (pow-lt {j = 32} (c .pre)))
+returns c = rw (c .byte-b .ensures, one-mul) (mod-eq-of-lt (pow-lt {j = 32} (c .before .pre)))
 
 pub lower-of-spec : {M : Type 1} → statement M
-lower-of-spec = tie.close (tie.spec (λ c. search needs) returns)
+lower-of-spec = tie.close (tie.spec (λ c κs. search needs) (λ c. search needs) returns)
