@@ -1,0 +1,5 @@
+pub mod Chains
+pub mod Firsts
+pub mod Grids
+pub mod Outcomes
+pub mod Pending

@@ -1,0 +1,85 @@
+-- `pair_event` goes one event on: each return is one case of the pairing's step.
+use Prim.Native.Nat.{_<_}
+use mathlib.Core.Logic.{inl, inr}
+use mathlib.Core.Path.{refl, sym, _∙_}
+use native.Mathlib.Omega.{arith}
+use Rattle.words.proofs.Tracks.{note-bounds}
+use Rattle.pairing.proofs.Chains.{queue-empty}
+use Rattle.pairing.proofs.Outcomes.{stepped-on, stepped-other, stepped-unmatched, stepped-closed}
+use borrow.Author.Needs.{needs}
+use Rattle.pairing.proofs.pair_event.Statement.{statement}
+use Rattle.pairing.proofs.pair_event.Tie as tie
+
+push-requires : tie.Need-push-requires
+push-requires c κs =
+    let p = c .before .before .before .before .before .before .before .before .before .pre in
+    let on = sym (c .before .before .before .before .is-on .ensures) ∙ c .before .before .before .if1 .taken in
+    let b = note-bounds _ (p .formed) (inl on) in
+    let a = c .before .before .before .before .before .before .before .take-apart .ensures in
+    record {
+      channel = omega (arith, b .channel, a .a, c .before .before .before .before .before .before .wide .ensures);
+      key = omega (arith, b .first, a .b, c .before .before .before .before .before .wide2 .ensures);
+      room = p .room on;
+      small = p .small;
+      held = p .held;
+    }
+
+returns : tie.Need-returns
+returns c x q =
+    let on = sym (c .before .before .before .before .before .before .before .is-on .ensures) ∙ c .before .before .before .before .before .before .if1 .taken in
+    let a = c .before .before .before .before .before .before .before .before .before .before .take-apart .ensures in
+    stepped-on on (c .before .before .push .ensures (x .pending) _ q (record { channel = sym (c .before .before .before .before .before .before .before .before .before .wide .ensures ∙ a .a); key = sym (c .before .before .before .before .before .before .before .before .wide2 .ensures ∙ a .b); tick = refl; number = refl }))
+
+-- an off names a channel and a key
+of-off : (c : tie.Then2) → (c .before .before .before .before .before .wide .result < 16) × (c .before .before .before .before .wide2 .result < 128)
+of-off c =
+    let b = note-bounds _ (c .before .before .before .before .before .before .before .before .pre .formed) (inr (sym (c .before .is-off .ensures) ∙ c .if2 .taken)) in
+    let a = c .before .before .before .before .before .before .take-apart .ensures in
+    (omega (arith, b .channel, a .a, c .before .before .before .before .before .wide .ensures), omega (arith, b .first, a .b, c .before .before .before .before .wide2 .ensures))
+
+returns-2 : tie.Need-returns-2
+returns-2 c x q =
+    let on = sym (c .before .before .before .before .before .is-on .ensures) ∙ c .before .before .before .before .if1 .left in
+    let off = sym (c .before .before .before .is-off .ensures) ∙ c .before .before .if2 .taken in
+    let a = c .before .before .before .before .before .before .before .before .take-apart .ensures in
+    let b = note-bounds _ (c .before .before .before .before .before .before .before .before .before .before .pre .formed) (inr off) in
+    stepped-unmatched on off
+    (queue-empty _ _ (b .channel) (b .first) (rw (c .before .before .before .before .before .before .before .wide .ensures ∙ a .a, c .before .before .before .before .before .before .wide2 .ensures ∙ a .b) at (c .if3 .taken)) q) q
+
+pop-requires : tie.Need-pop-requires
+pop-requires c κs =
+    let p = c .before .before .before .before .before .before .before .before .before .before .before .before .pre .held in
+    let b = of-off (c .before .before .before .before) in
+    record { tails = _; count = _; pending = p .pending; queues = p .queues; channel = b .0; key = b .1; full = omega arith }
+
+returns-3 : tie.Need-returns-3
+returns-3 c x q =
+    let on = sym (c .before .before .before .before .before .before .before .before .is-on .ensures) ∙ c .before .before .before .before .before .before .before .if1 .left in
+    let off = sym (c .before .before .before .before .before .before .is-off .ensures) ∙ c .before .before .before .before .before .if2 .taken in
+    let a = c .before .before .before .before .before .before .before .before .before .before .before .take-apart .ensures in
+    stepped-closed on off (rw (c .before .before .before .before .before .before .before .before .before .before .wide .ensures ∙ a .a, c .before .before .before .before .before .before .before .before .before .wide2 .ensures ∙ a .b) at (c .pop .ensures _ _ _ q))
+
+returns-4 : tie.Need-returns-4
+returns-4 c x q = stepped-other (sym (c .before .before .before .is-on .ensures) ∙ c .before .before .if1 .left) (sym (c .before .is-off .ensures) ∙ c .if2 .left) q
+
+pub pair-event-spec : {M : Type 1} → statement M
+pair-event-spec =
+    tie.close
+    (tie.spec
+    (λ c κs. search needs)
+    (λ c κs. search needs)
+    (λ c κs. search needs)
+    (λ c κs. search needs)
+    push-requires
+    (λ c. search needs)
+    returns
+    (λ c κs. search needs)
+    (λ c. search needs)
+    (λ c. search needs)
+    (λ c. of-off c .0)
+    (λ c. of-off c .1)
+    returns-2
+    pop-requires
+    (λ c. search needs)
+    returns-3
+    returns-4)
