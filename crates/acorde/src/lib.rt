@@ -13,14 +13,14 @@ use changes::Head;
 use changes::PartHead;
 
 // A piece at the door: its number, the count of its parts, and the most note-ons in one track.
-pub struct Entry {
-    pub number: u32,
-    pub parts: usize,
-    pub most: usize,
+struct Entry {
+    number: u32,
+    parts: usize,
+    most: usize,
 }
 
 // The first of 1 to 6 that applies, else 0 and the two counts.
-pub fn enter(sizes: &[u32], deltas: &[u32], words: &[u32]) -> Entry
+fn enter(sizes: &[u32], deltas: &[u32], words: &[u32]) -> Entry
     ensures { λ r. ⌜ Entered (piece (now (sizes .entry)) (now (deltas .entry)) (now (words .entry))) r ⌝ }
 {
     let number = piece::admission(sizes, deltas, words);
