@@ -28,7 +28,8 @@ pub fn piece(piece: &Piece) -> Checked {
             let import =
                 reference::import(piece).map_err(|n| format!("the reference refused {n}"))?;
             heads(piece, &import)?;
-            bars(piece, &import)
+            bars(piece, &import)?;
+            automation(piece, &import)
         }
     }
 }
@@ -56,7 +57,25 @@ fn refusal(piece: &Piece, number: u32) -> Checked {
         program: 0,
     };
     same("part head", library::part_head(piece, 0), none)?;
-    bars_turned_back(piece, number, 3, 2)
+    bars_turned_back(piece, number, 3, 2)?;
+    automation_turned_back(piece, 0, number, (3, 2))
+}
+
+fn automation_turned_back(
+    piece: &Piece,
+    part: u32,
+    number: u32,
+    (ticks, words): (usize, usize),
+) -> Checked {
+    let (mut a, mut b) = (library::lent64(ticks), library::lent32(words));
+    let answer = library::automation(piece, part, &mut a, &mut b);
+    let none = library::Automation {
+        number,
+        ..Default::default()
+    };
+    same("automation", answer, none)?;
+    holds("automation ticks of a refusal", a.holds(&[]))?;
+    holds("automation words of a refusal", b.holds(&[]))
 }
 
 fn bars_turned_back(piece: &Piece, number: u32, starts: usize, marks: usize) -> Checked {
@@ -127,6 +146,29 @@ fn bars(piece: &Piece, import: &Import) -> Checked {
     }
     bars_turned_back(piece, 8, count - 1, count)?;
     bars_turned_back(piece, 8, count, count - 1)
+}
+
+/// Each part's automation, with the same three rooms; then a part that is not there.
+fn automation(piece: &Piece, import: &Import) -> Checked {
+    for (number, part) in import.parts.iter().enumerate() {
+        let wanted = packed::automation(&part.automation);
+        let (number, count) = (number as u32, wanted.ticks.len());
+        for (ticks, words) in [(count + 2, count + 1), (count, count)] {
+            let (mut a, mut b) = (library::lent64(ticks), library::lent32(words));
+            let answer = library::automation(piece, number, &mut a, &mut b);
+            let counts = wanted.counts.map(|count| count as usize);
+            let given = library::Automation { number: 0, counts };
+            same("automation", answer, given)?;
+            holds("automation ticks", a.holds(&wanted.ticks))?;
+            holds("automation words", b.holds(&wanted.words))?;
+        }
+        if count > 0 {
+            automation_turned_back(piece, number, 8, (count - 1, count))?;
+            automation_turned_back(piece, number, 8, (count, count - 1))?;
+        }
+    }
+    let count = import.parts.len() as u32;
+    automation_turned_back(piece, count, 7, (3, 2))
 }
 
 /// A piece that still differs, with events taken out while it does.

@@ -29,6 +29,13 @@ pub struct PartHead {
     pub program: u32,
 }
 
+#[repr(C)]
+#[derive(Debug, Clone, Copy, PartialEq, Eq, Default)]
+pub struct Automation {
+    pub number: u32,
+    pub counts: [usize; 4],
+}
+
 type Words = *const u32;
 
 #[rustfmt::skip]
@@ -38,6 +45,8 @@ unsafe extern "C" {
     fn acorde_part_head(s: Words, sn: usize, d: Words, dn: usize, w: Words, wn: usize, part: u32) -> PartHead;
     fn acorde_bars(s: Words, sn: usize, d: Words, dn: usize, w: Words, wn: usize,
         starts: *mut u64, starts_n: usize, marks: *mut u64, marks_n: usize) -> Count;
+    fn acorde_automation(s: Words, sn: usize, d: Words, dn: usize, w: Words, wn: usize, part: u32,
+        ticks: *mut u64, ticks_n: usize, out: *mut u32, out_n: usize) -> Automation;
 }
 
 const CANARY: u64 = 0x5ca1_ab1e_0ddb_a115;
@@ -75,6 +84,10 @@ impl<T: Copy + PartialEq> Lent<T> {
 
 pub fn lent64(room: usize) -> Lent<u64> {
     Lent::new(room, |index| !(index as u64), CANARY)
+}
+
+pub fn lent32(room: usize) -> Lent<u32> {
+    Lent::new(room, |index| !(index as u32), CANARY as u32)
 }
 
 pub fn head(p: &Piece) -> Head {
@@ -131,6 +144,31 @@ pub fn bars(p: &Piece, starts: &mut Lent<u64>, marks: &mut Lent<u64>) -> Count {
             d.len(),
             w.as_ptr(),
             w.len(),
+            a.as_mut_ptr(),
+            a.len(),
+            b.as_mut_ptr(),
+            b.len(),
+        )
+    }
+}
+
+pub fn automation(
+    p: &Piece,
+    part: u32,
+    ticks: &mut Lent<u64>,
+    words: &mut Lent<u32>,
+) -> Automation {
+    let (s, d, w) = (&p.sizes, &p.deltas, &p.words);
+    let (a, b) = (ticks.lend(), words.lend());
+    unsafe {
+        acorde_automation(
+            s.as_ptr(),
+            s.len(),
+            d.as_ptr(),
+            d.len(),
+            w.as_ptr(),
+            w.len(),
+            part,
             a.as_mut_ptr(),
             a.len(),
             b.as_mut_ptr(),

@@ -102,7 +102,7 @@ module _ (es : List Event) (p end : ℕ) (starts marks : List ℕ) where
 
 -- ---- of a piece
 
-quarter-fits : (x : Piece) → Admitted x → ticksPerQuarter x ≤ 65535
+pub quarter-fits : (x : Piece) → Admitted x → ticksPerQuarter x ≤ 65535
 quarter-fits x known = go (timecode x)
   where
     go : (t : Bool) → cond t 480 (division x) ≤ 65535

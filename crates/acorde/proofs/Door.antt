@@ -1,7 +1,7 @@
 -- A piece at the door: what its number says of the refusals that follow.
 use Prim.Native.Nat.{ℕ, _≤_, _<_}
 use mathlib.Core.Bool.{Bool, true, false}
-use mathlib.Core.List.{List, [], _∷_, _++_, append-nil}
+use mathlib.Core.List.{List, [], _∷_, _++_, append-nil, append-assoc}
 use mathlib.Core.Path.{_≡_, refl, sym, _∙_}
 use native.Mathlib.Nat.{pos-of-ne-zero}
 use native.Mathlib.Omega.{arith}
@@ -81,11 +81,18 @@ module _ (x : Piece) where
     door-after ss a z = passes-append (noteRefusals x) ss a (door-passes z)
 
     -- 7 after them: no such part
-    module _ (z : e .number ≡ 0) {A : Type 0} (k : ℕ) (a : A) where
-      pub no-such-part : e .parts ≤ k → unless (partRefusals x k) a ≡ refused 7
-      unfolding unless
-      no-such-part h = door-after _ a z ∙ rw (le-leb (length (parts x)) k (omega (arith, entered .parts z)))
+    pub door-refuses-part : {A : Type 0} (k : ℕ) (ss : List Refusal) (a : A) → (e .number ≡ 0 → ⊥) → unless (partRefusals x k ++ ss) a ≡ refused (e .number)
+    door-refuses-part k ss a h = rw append-assoc (door-refuses _ a h)
 
-      pub part-passes : k < e .parts → unless (partRefusals x k) a ≡ given a
+    module _ (z : e .number ≡ 0) (k : ℕ) where
+      pub part-found : k < e .parts → Passes (partRefusals x k)
+      part-found h = All-append _ (noteRefusals x) _ (door-passes z) (lt-leb (length (parts x)) k (omega (arith, entered .parts z)), tt)
+
+      pub part-missing : {A : Type 0} (a : A) → e .parts ≤ k → unless (partRefusals x k) a ≡ refused 7
       unfolding unless
-      part-passes h = door-after _ a z ∙ rw (lt-leb (length (parts x)) k (omega (arith, entered .parts z)))
+      part-missing a h = door-after _ a z ∙ rw (le-leb (length (parts x)) k (omega (arith, entered .parts z)))
+
+      module _ {A : Type 0} (ss : List Refusal) (a : A) where
+        pub no-such-part : e .parts ≤ k → unless (partRefusals x k ++ ss) a ≡ refused 7
+        unfolding unless
+        no-such-part h = rw append-assoc (door-after _ a z ∙ rw (le-leb (length (parts x)) k (omega (arith, entered .parts z))))

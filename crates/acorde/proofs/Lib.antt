@@ -1,3 +1,4 @@
+pub mod AutomationOutcomes
 pub mod BarOutcomes
 pub mod Door
 pub mod Heads

@@ -11,7 +11,8 @@ use Rattle.rules.specs.Piece.{Piece, Event}
 use Rattle.rules.specs.RawNotes.{parts, mostNotes}
 use Rattle.rules.specs.Refusals.{Result, refused, given, unless, firstNumber, noteRefusals, shortOutput}
 use Rattle.rules.specs.Bars.{barsIn, startsOf, marksIn, mostBars}
-use Rattle.rules.specs.Calls.{headCall, BarLists}
+use Rattle.rules.specs.Calls.{headCall, BarLists, AutomationCounts}
+use Rattle.rules.specs.Automation.{AutomationLists, automationLists}
 use Rattle.changes.specs.declared.Head as changes
 use Rattle.changes.specs.declared.PartHead as part
 use Rattle.acorde.specs.declared.Entry.{Entry}
@@ -19,6 +20,7 @@ use Rattle.acorde.specs.declared.HeadAnswer as head
 use Rattle.acorde.specs.declared.PartCountAnswer as count
 use Rattle.acorde.specs.declared.PartHeadAnswer as part-head
 use Rattle.acorde.specs.declared.BarsAnswer as bars-answer
+use Rattle.acorde.specs.declared.AutomationAnswer as automation-answer
 
 -- A piece at the door: the first of 1 to 6 that applies, else 0; then how many parts it has, and N.
 pub record Entered (x : Piece) (r : Entry) : Type 0 where
@@ -68,3 +70,15 @@ barsOutcome es p end room-starts room-marks =
     ∷ shortOutput room-marks (marksIn es (barsIn mostBars p es end))
     ∷ [])
     (record { starts = startsOf (barsIn mostBars p es end); marks = marksIn es (barsIn mostBars p es end) })
+
+abbrev pub automationAnswer : automation-answer.AutomationAnswer → Result AutomationCounts
+automationAnswer (automation-answer.the-variants.Refused n) = refused n
+automationAnswer (automation-answer.the-variants.Given c) =
+    given (record { bends = c .bends; controllers = c .controllers; programs = c .programs; pressures = c .pressures })
+
+-- what writing the automation of a part's track comes to, with this room
+abbrev pub automationOutcome : ℕ → List Event → ℕ → ℕ → Result AutomationLists
+automationOutcome p es room-ticks room-words =
+    unless
+    (shortOutput room-ticks (automationLists p es .ticks) ∷ shortOutput room-words (automationLists p es .words) ∷ [])
+    (automationLists p es)

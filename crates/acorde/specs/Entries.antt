@@ -6,11 +6,13 @@ use mathlib.Core.List.{List}
 use mathlib.Core.Path.{_≡_}
 use lib.ListN.{length}
 use Rattle.rules.specs.Lists.{flag, written}
-use Rattle.rules.specs.Calls.{BarLists}
+use Rattle.rules.specs.Automation.{AutomationLists}
+use Rattle.rules.specs.Calls.{BarLists, AutomationCounts, countsOf}
 use Rattle.rules.specs.Changes as rules
 use Rattle.rules.specs.Refusals.{Result, refused, given, answers, writes}
 use Rattle.changes.specs.declared.Head.{Head}
 use Rattle.acorde.specs.declared.entries.AcordeHead.{AcordeHead}
+use Rattle.acorde.specs.declared.entries.AcordeAutomation.{AcordeAutomation}
 use Rattle.acorde.specs.declared.entries.AcordeCount.{AcordeCount}
 use Rattle.acorde.specs.declared.entries.AcordePartHead.{AcordePartHead}
 
@@ -51,3 +53,16 @@ pub record BarsEntered (r : Result BarLists) (starts₀ marks₀ : List ℕ) (an
   pub answered : answer ≡ countEntry (answers (λ (b : BarLists). length (b .starts)) r)
   pub starts : starts₁ ≡ written (writes (λ (b : BarLists). b .starts) r) starts₀
   pub marks : marks₁ ≡ written (writes (λ (b : BarLists). b .marks) r) marks₀
+
+abbrev pub automationEntry : Result AutomationCounts → AcordeAutomation
+automationEntry (refused n) = record { number = n; bends = 0; controllers = 0; programs = 0; pressures = 0 }
+automationEntry (given c) =
+    record { number = 0; bends = c .bends; controllers = c .controllers; programs = c .programs; pressures = c .pressures }
+
+-- after the entry of the automation call of outcome r
+pub record AutomationEntered
+    (r : Result AutomationLists) (ticks₀ words₀ : List ℕ) (answer : AcordeAutomation) (ticks₁ words₁ : List ℕ)
+    : Type 0 where
+  pub answered : answer ≡ automationEntry (answers countsOf r)
+  pub ticks : ticks₁ ≡ written (writes (λ (a : AutomationLists). a .ticks) r) ticks₀
+  pub words : words₁ ≡ written (writes (λ (a : AutomationLists). a .words) r) words₀

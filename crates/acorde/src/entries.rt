@@ -2,9 +2,10 @@
 ghost use mathlib.Core.Path.{_≡_};
 ghost use Rattle.rules.specs.Lists.{flag};
 ghost use Rattle.rules.specs.Piece.{piece};
-ghost use Rattle.rules.specs.Calls.{headCall, partCountCall, partHeadCall, barsCall};
+ghost use Rattle.rules.specs.Calls.{headCall, partCountCall, partHeadCall, barsCall, automationCall};
 ghost use lib.ListN.{length};
-ghost use Rattle.acorde.specs.Entries.{headValues, headEntry, countEntry, partHeadEntry, BarsEntered};
+ghost use Rattle.acorde.specs.Entries.{headValues, headEntry, countEntry, partHeadEntry, BarsEntered, AutomationEntered};
+use crate::AutomationAnswer;
 use crate::BarsAnswer;
 use crate::HeadAnswer;
 use crate::PartCountAnswer;
@@ -33,6 +34,15 @@ pub struct AcordePartHead {
     pub number: u32,
     pub channel: u32,
     pub program: u32,
+}
+
+#[repr(C)]
+pub struct AcordeAutomation {
+    pub number: u32,
+    pub bends: usize,
+    pub controllers: usize,
+    pub programs: usize,
+    pub pressures: usize,
 }
 
 fn flag(b: bool) -> u32
@@ -121,5 +131,36 @@ pub extern "C" fn acorde_bars(
     match crate::bars(sizes, deltas, words, starts, marks) {
         BarsAnswer::Refused(number) => AcordeCount { number, count: 0 },
         BarsAnswer::Given(count) => AcordeCount { number: 0, count },
+    }
+}
+
+#[no_mangle]
+pub extern "C" fn acorde_automation(
+    sizes: &[u32],
+    deltas: &[u32],
+    words: &[u32],
+    part: u32,
+    ticks: &mut [u64],
+    out: &mut [u32],
+) -> AcordeAutomation
+    ensures { λ r. ⌜ AutomationEntered
+        (automationCall (piece (now (sizes .entry)) (now (deltas .entry)) (now (words .entry))) part (length (now (ticks .entry))) (length (now (out .entry))))
+        (now (ticks .entry)) (now (out .entry)) r (now (ticks .exit)) (now (out .exit)) ⌝ }
+{
+    match crate::automation(sizes, deltas, words, part, ticks, out) {
+        AutomationAnswer::Refused(number) => AcordeAutomation {
+            number,
+            bends: 0,
+            controllers: 0,
+            programs: 0,
+            pressures: 0,
+        },
+        AutomationAnswer::Given(c) => AcordeAutomation {
+            number: 0,
+            bends: c.bends,
+            controllers: c.controllers,
+            programs: c.programs,
+            pressures: c.pressures,
+        },
     }
 }

@@ -1,14 +1,16 @@
 // The calls of the import. None asks anything of its caller: any arrays at all give an answer or one of document 01's numbers.
 ghost use mathlib.Core.Path.{_≡_};
 ghost use Rattle.rules.specs.Piece.{piece};
-ghost use Rattle.rules.specs.Calls.{partCountCall, partHeadCall, barsCall, BarsCalled};
-ghost use Rattle.words.specs.Track.{eventsOf};
+ghost use Rattle.rules.specs.Calls.{partCountCall, partHeadCall, barsCall, BarsCalled, automationCall, AutomationCalled};
+ghost use Prim.Native.Nat.{_≤_, _<_};
+ghost use Rattle.words.specs.Track.{Track, eventsOf};
 ghost use Rattle.bars.specs.Walk.{CanWalk};
 ghost use lib.ListN.{length};
-ghost use Rattle.acorde.specs.Answers.{Entered, HeadCalled, countAnswer, partHeadAnswer, barsAnswer, barsOutcome};
+ghost use Rattle.acorde.specs.Answers.{Entered, HeadCalled, countAnswer, partHeadAnswer, barsAnswer, barsOutcome, automationAnswer, automationOutcome};
 
 mod entries;
 
+use automation::Counts;
 use changes::Head;
 use changes::PartHead;
 
@@ -159,4 +161,63 @@ pub fn bars(
     let from = track.from;
     let to = track.to;
     write_bars(p, &deltas[from..to], &words[from..to], end, starts, marks)
+}
+
+pub enum AutomationAnswer {
+    Refused(u32),
+    Given(Counts),
+}
+
+// The automation of a part's track, counted before it is written.
+fn write_automation(
+    p: u64,
+    deltas: &[u32],
+    words: &[u32],
+    ticks: &mut [u64],
+    out: &mut [u32],
+) -> AutomationAnswer
+    requires { ⌜ Track (now deltas) (now words) × (0 < p) × (p ≤ 65535) ⌝ }
+    ensures { λ r. ⌜ AutomationCalled
+        (automationOutcome p (eventsOf (now (deltas .entry)) (now (words .entry))) (length (now (ticks .entry))) (length (now (out .entry))))
+        (now (ticks .entry)) (now (out .entry)) (automationAnswer r) (now (ticks .exit)) (now (out .exit)) ⌝ }
+{
+    let dropped = automation::recognized_auxiliary_channels(deltas, words);
+    let counts = automation::count_automation(deltas, words, dropped);
+    let all = counts.bends + counts.controllers + counts.programs + counts.pressures;
+    if ticks.len() < all {
+        return AutomationAnswer::Refused(8);
+    }
+    if out.len() < all {
+        return AutomationAnswer::Refused(8);
+    }
+    automation::collect_automation(deltas, words, p, dropped, ticks, out);
+    AutomationAnswer::Given(counts)
+}
+
+// A part's automation: four counts, then ticks at 480 per quarter and words. Refusals 1 to 8.
+pub fn automation(
+    sizes: &[u32],
+    deltas: &[u32],
+    words: &[u32],
+    part: u32,
+    ticks: &mut [u64],
+    out: &mut [u32],
+) -> AutomationAnswer
+    ensures { λ r. ⌜ AutomationCalled
+        (automationCall (piece (now (sizes .entry)) (now (deltas .entry)) (now (words .entry))) part (length (now (ticks .entry))) (length (now (out .entry))))
+        (now (ticks .entry)) (now (out .entry)) (automationAnswer r) (now (ticks .exit)) (now (out .exit)) ⌝ }
+{
+    let entry = enter(sizes, deltas, words);
+    if entry.number != 0 {
+        return AutomationAnswer::Refused(entry.number);
+    }
+    let wanted = part as usize;
+    if entry.parts <= wanted {
+        return AutomationAnswer::Refused(7);
+    }
+    let p = piece::ticks_per_quarter(sizes);
+    let track = piece::part_track(sizes, deltas, words, wanted);
+    let from = track.from;
+    let to = track.to;
+    write_automation(p, &deltas[from..to], &words[from..to], ticks, out)
 }

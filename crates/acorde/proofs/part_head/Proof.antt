@@ -1,13 +1,9 @@
 -- `acorde::part_head` meets its contract: the head is read off the part's own track.
 use borrow.Author.Needs.{needs}
-use mathlib.Core.List.{[]}
-use mathlib.Core.Path.{sym, ap, _∙_}
+use mathlib.Core.Path.{sym, _∙_}
 use native.Mathlib.Omega.{arith}
-use Rattle.rules.specs.Piece.{piece}
-use Rattle.rules.specs.RawNotes.{parts}
-use Rattle.rules.specs.Refusals.{given}
-use Rattle.piece.specs.Spans.{IsSpan}
-use Rattle.acorde.proofs.Door.{door-refuses, door-passes, door-admits, no-such-part, part-passes}
+use Rattle.laws.proofs.Refusals.{passes-given}
+use Rattle.acorde.proofs.Door.{door-refuses, door-admits, part-missing, part-found}
 use Rattle.acorde.proofs.Heads.{part-given}
 use Rattle.acorde.proofs.part_head.Statement.{statement}
 use Rattle.acorde.proofs.part_head.Tie as tie
@@ -18,7 +14,7 @@ returns c = sym (door-refuses _ (c .before .before .enter .ensures) _ _ (c .if1 
 returns-2 : tie.Need-returns-2
 returns-2 c =
     let o = c .before .before in
-    sym (no-such-part _ (o .before .before .enter .ensures) (o .if1 .left) _ _ (c .if2 .taken))
+    sym (part-missing _ (o .before .before .enter .ensures) (o .if1 .left) _ _ (c .if2 .taken))
 
 part-track-requires : tie.Need-part-track-requires
 part-track-requires c κs =
@@ -31,7 +27,7 @@ returns-3 c =
     let t = c .before .before in
     let o = t .before .before .before in
     part-given _ _ (t .part-track .ensures) (c .extract-program .ensures)
-    ∙ sym (part-passes _ (o .before .before .enter .ensures) (o .if1 .left) _ _ (t .before .if2 .left))
+    ∙ sym (passes-given _ _ (part-found _ (o .before .before .enter .ensures) (o .if1 .left) _ (t .before .if2 .left)))
 
 pub part-head-spec : {M : Type 1} → statement M
 part-head-spec =

@@ -1,0 +1,7 @@
+pub mod Bounds
+pub mod Cells
+pub mod Choosing
+pub mod ListFacts
+pub mod Reading
+pub mod Spreading
+pub mod Ways

@@ -1,0 +1,29 @@
+-- `choose` chooses as the rules do, whatever the voices are of which the last starts and ends are known.
+use borrow.Author.Needs.{needs}
+use Rattle.voices.proofs.Choosing.{known-free, known-together, known-cut}
+use Rattle.voices.proofs.choose.Statement.{statement}
+use Rattle.voices.proofs.choose.Tie as tie
+
+returns : tie.Need-returns
+returns c x vs e k = known-free x e k (c .before .first-free .ensures) (c .if1 .taken)
+
+returns-2 : tie.Need-returns-2
+returns-2 c x vs e k =
+    known-together x e k (c .before .before .before .before .first-free .ensures) (c .before .before .before .if1 .left) (c .before .first-together .ensures) (c .if2 .taken)
+
+returns-3 : tie.Need-returns-3
+returns-3 c x vs e k =
+    let d = c .before in
+    known-cut x e k (d .before .before .before .before .first-free .ensures) (d .before .before .before .if1 .left) (d .before .first-together .ensures) (d .if2 .left)
+    (c .earliest .ensures)
+
+pub choose-spec : {M : Type 1} → statement M
+choose-spec =
+    tie.close
+    (tie.spec
+    (λ c κs. search needs)
+    returns
+    (λ c κs. search needs)
+    returns-2
+    (λ c κs. search needs)
+    returns-3)
