@@ -1,0 +1,70 @@
+/* The calls of the import for C. A piece is three arrays: sizes, deltas, words; each array passes as a pointer and a count
+   of elements. Pointers are aligned and not null, also where the count is 0; outputs overlap neither each other nor the
+   inputs. `number` is the refusal's number, 0 where the call is answered; beside a refusal every other field is 0 and no
+   output has changed. */
+#ifndef ACORDE_H
+#define ACORDE_H
+
+#include <stddef.h>
+#include <stdint.h>
+
+#ifdef __cplusplus
+extern "C" {
+#endif
+
+typedef struct {
+    uint32_t number;
+    uint32_t tempo;   /* beats per minute */
+    uint32_t upper;   /* meter */
+    uint32_t lower;
+    uint32_t has_key; /* 0: the key is absent, and fifths and minor are 0 */
+    int32_t fifths;
+    uint32_t minor;
+} AcordeHead;
+
+typedef struct {
+    uint32_t number;
+    uint32_t count;
+} AcordeCount;
+
+typedef struct {
+    uint32_t number;
+    uint32_t channel;
+    uint32_t program;
+} AcordePartHead;
+
+typedef struct {
+    uint32_t number;
+    size_t bends;
+    size_t controllers;
+    size_t programs;
+    size_t pressures;
+} AcordeAutomation;
+
+/* The piece's head. Numbers 1 to 6. */
+AcordeHead acorde_head(const uint32_t *sizes, size_t sizes_n, const uint32_t *deltas, size_t deltas_n,
+                       const uint32_t *words, size_t words_n);
+
+/* How many parts there are. Numbers 1 to 6. */
+AcordeCount acorde_part_count(const uint32_t *sizes, size_t sizes_n, const uint32_t *deltas, size_t deltas_n,
+                              const uint32_t *words, size_t words_n);
+
+/* The head of a part, numbered from 0. Numbers 1 to 7. */
+AcordePartHead acorde_part_head(const uint32_t *sizes, size_t sizes_n, const uint32_t *deltas, size_t deltas_n,
+                                const uint32_t *words, size_t words_n, uint32_t part);
+
+/* The bars, at most 10,000: their count; starts and marks are written. Numbers 1 to 6 and 8. */
+AcordeCount acorde_bars(const uint32_t *sizes, size_t sizes_n, const uint32_t *deltas, size_t deltas_n,
+                        const uint32_t *words, size_t words_n, uint64_t *starts, size_t starts_n, uint64_t *marks,
+                        size_t marks_n);
+
+/* A part's automation: four counts; ticks at 480 per quarter and words are written, kind after kind. Numbers 1 to 8. */
+AcordeAutomation acorde_automation(const uint32_t *sizes, size_t sizes_n, const uint32_t *deltas, size_t deltas_n,
+                                   const uint32_t *words, size_t words_n, uint32_t part, uint64_t *ticks,
+                                   size_t ticks_n, uint32_t *out, size_t out_n);
+
+#ifdef __cplusplus
+}
+#endif
+
+#endif
