@@ -1,0 +1,47 @@
+-- `push_chord`: a span with both ties, and its ends freed.
+use Prim.Native.Nat.{_*_, _≤_, _<_, _^_}
+use mathlib.Core.Path.{_≡_, refl}
+use native.Mathlib.Omega.{arith}
+use borrow.Author.Needs.{needs}
+use Rattle.chords.specs.Columns.{chordOf}
+use Rattle.items.proofs.Pieces.{pieces-length}
+use Rattle.items.proofs.Ties.{flag-small, span-tied, span-pieces}
+use Rattle.items.proofs.push_chord.Statement.{statement}
+use Rattle.items.proofs.push_chord.Tie as tie
+
+-- a flag is 0 or 1
+mark : (c : tie.After-flag) → c .flag .result ≤ 1
+mark c = rw (c .flag .ensures) (flag-small (c .before .before .before .before .before .args .c .unpitched))
+
+push-span-requires : tie.Need-push-span-requires
+push-span-requires c κs =
+    let pre = c .before .before .before .before .before .before .before .before .pre in
+    (pre .0, omega (arith, mark (c .before .before .before)), rw (c .before .before .before .before .before .smaller .ensures, c .before .before .before .before .larger .ensures) (rw (pieces-length _ _ _ _) at (pre .2)))
+
+free-ends-requires : tie.Need-free-ends-requires
+free-ends-requires c κs =
+    span-tied _ (omega arith) (push-span-requires (c .before .before .before .before .before .before .before .before .before .before) (c .before .before .before .before .before .before .before .before .before .push-span .lifetimes) .2 .heads-fit) (c .before .before .before .before .before .before .before .before .before .push-span .ensures)
+
+returns : tie.Need-returns
+returns c =
+    let given = c .before .before .before .before .before .before .before .before .before .before .before .before .before .before .before .before .before .before .before .before .before .args in
+    let fits = push-span-requires (c .before .before .before .before .before .before .before .before .before .before .before .before .before) (c .before .before .before .before .before .before .before .before .before .before .before .before .push-span .lifetimes) .2 .heads-fit in
+    let span = c .before .before .before .before .before .before .before .before .before .before .before .before .push-span .ensures in
+    rw (← c .before .before .before .before .before .before .before .before .before .before .before .before .before .before .before .before .before .before .smaller .ensures, ← c .before .before .before .before .before .before .before .before .before .before .before .before .before .before .before .before .before .larger .ensures)
+    (span-pieces (chordOf (given .c)) (given .c .keys) _ _ (omega arith) refl fits (rw (c .before .before .before .before .before .before .before .before .before .before .before .before .before .before .before .before .flag .ensures) at span) (c .before .before .free-ends .ensures))
+
+pub push-chord-spec : {M : Type 1} → statement M
+push-chord-spec =
+    tie.close
+    (tie.spec
+    (λ c κs. search needs)
+    (λ c κs. search needs)
+    (λ c. search needs)
+    (λ c κs. search needs)
+    (λ c. omega (arith, mark c))
+    (λ c. omega (arith, mark c))
+    push-span-requires
+    free-ends-requires
+    (λ c. search needs)
+    (λ c. search needs)
+    returns)

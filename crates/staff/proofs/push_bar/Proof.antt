@@ -1,0 +1,71 @@
+-- `push_bar`: the loop's invariant is that the bar is half written.
+use Prim.Native.Nat.{_-_}
+use mathlib.Core.Path.{refl}
+use native.Mathlib.Omega.{arith}
+use borrow.Author.Needs.{needs}
+use Rattle.items.specs.Writing.{quarter}
+use Rattle.staff.specs.Bars.{CanPush}
+use Rattle.staff.proofs.BarWalk.{Midway, midway-start, midway-counts, midway-heads, midway-keys, midway-can, midway-more, midway-end}
+use Rattle.staff.proofs.push_bar.Statement.{statement}
+use Rattle.staff.proofs.push_bar.Tie as tie
+
+abbrev Inv-loop : tie.InvT-loop
+Inv-loop write values work n bar s counts₀ heads₀ keys₀ lens nexts₀ at₀ v₀ counts heads keys nexts at v =
+    Midway write (quarter values) n work lens bar s counts₀ heads₀ keys₀ counts heads keys nexts at v
+
+abbrev μ-loop : tie.MeasureT-loop
+μ-loop write values work n bar s counts₀ heads₀ keys₀ lens nexts₀ at₀ v₀ counts heads keys nexts at v =
+    4 - v
+
+-- what is asked of the bar
+abbrev can : (c : tie.Start Inv-loop μ-loop) → CanPush (c .args .write) (quarter (c .args .values .now)) (c .args .n) (c .args .work .now) (c .args .t5) (c .args .bar) (c .args .s) (c .args .counts .now) (c .args .heads .now) (c .args .keys .now)
+can c = c .pre .2
+
+loop-holds : tie.Need-loop-holds Inv-loop μ-loop
+loop-holds c = midway-start _ _ _ _ _ _ _ _ _ _ (can (c .before .before .before .before .before))
+
+push-counted-requires : tie.Need-push-counted-requires Inv-loop μ-loop
+push-counted-requires c κs =
+    let at = c .before .before .before .before .before .loop in
+    let pre = c .before .before .before .before .before .before .before .before .before .before .before .pre in
+    (pre .0, pre .1 (at .v) (omega arith), midway-can _ _ _ _ _ _ _ _ _ _ (can (c .before .before .before .before .before .before .before .before .before .before .before)) (at .inv) (omega arith))
+
+loop-again : tie.Need-loop-again Inv-loop μ-loop
+loop-again c = midway-more _ _ _ _ _ _ _ _ _ _ (can (c .before .before .before .before .before .before .before .before .before .before .before .before .before .before .before .before .before .before)) (c .before .before .before .before .before .before .before .before .before .before .before .before .loop .inv) (omega arith) (c .before .before .before .before .before .before .push-counted .ensures)
+
+same-length : tie.Need-same-length Inv-loop μ-loop
+same-length c = midway-counts _ _ _ _ _ _ _ _ _ _ (can (c .before .before .before .before .before .before .before .before)) (c .before .before .loop .inv)
+
+same-length-2 : tie.Need-same-length-2 Inv-loop μ-loop
+same-length-2 c = midway-heads _ _ _ _ _ _ _ _ _ _ (can (c .before .before .before .before .before .before .before .before)) (c .before .before .loop .inv)
+
+same-length-3 : tie.Need-same-length-3 Inv-loop μ-loop
+same-length-3 c = midway-keys _ _ _ _ _ _ _ _ _ _ (can (c .before .before .before .before .before .before .before .before)) (c .before .before .loop .inv)
+
+returns : tie.Need-returns Inv-loop μ-loop
+returns c = midway-end _ _ _ _ _ _ _ _ _ _ (can (c .before .before .before .before .before .before .before .before)) (c .before .before .loop .inv) (c .before .loop-test .left) _ refl refl refl
+
+pub push-bar-spec : {M : Type 1} → statement M
+push-bar-spec =
+    tie.close
+    (tie.spec
+    Inv-loop
+    μ-loop
+    loop-holds
+    (λ c. omega (arith, can (c .before .before .before .before .before .before .before .before) .few))
+    (λ c. omega (arith, can (c .before .before .before .before .before .before .before .before) .few))
+    (λ c. omega arith)
+    (λ c. omega arith)
+    (λ c. omega arith)
+    (λ c. omega arith)
+    push-counted-requires
+    (λ c. omega arith)
+    (λ c. omega arith)
+    (λ c. omega arith)
+    (λ c. omega arith)
+    loop-again
+    (λ c. omega (arith, can (c .before .before .before .before .before .before .before .before) .few))
+    same-length
+    same-length-2
+    same-length-3
+    returns)
