@@ -1,0 +1,7 @@
+pub mod Putting
+pub mod Searching
+pub mod Walking
+pub mod Turns
+pub mod Running
+pub mod Taking
+pub mod FirstTrack
