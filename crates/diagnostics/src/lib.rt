@@ -48,13 +48,14 @@ fn at_event(code: u64, track: u64, event: u64, tick: u64) -> Diagnostic
 fn unmatched_off(track: u64, event: u64, tick: u64, channel: u64) -> Diagnostic
     ensures { λ r. ⌜ r ≡ offAt track event tick channel ⌝ }
 {
+    let key = 255;
     Diagnostic {
         code: 4,
         track,
         event,
         tick,
         channel,
-        key: 255,
+        key,
     }
 }
 
