@@ -17,9 +17,9 @@ use Rattle.piece.specs.Spans.{IsSpan}
 use Rattle.piece.specs.declared.Span.{Span}
 use Rattle.piece.proofs.Cuts.{span-track}
 use Rattle.diagnostics.specs.declared.Group.the-variants.{OffMeasure}
-use Rattle.diagnostics.specs.Found.{FoundIn}
+use Rattle.findings.specs.Found.{FoundIn}
 use Rattle.diagnostics.specs.Groups.{meterIn, meterLength, foundOf, Searchable}
-use Rattle.diagnostics.proofs.Putting.{found-as}
+use Rattle.findings.proofs.Putting.{found-as}
 use Rattle.diagnostics.proofs.Searching.{any-meter}
 
 module _ (x : Piece) (known : Admitted x) where

@@ -1,7 +1,4 @@
-pub mod Putting
+pub mod FirstTrack
+pub mod Groups
 pub mod Searching
 pub mod Walking
-pub mod Turns
-pub mod Running
-pub mod Taking
-pub mod FirstTrack

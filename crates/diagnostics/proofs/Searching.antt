@@ -22,9 +22,9 @@ use Rattle.words.specs.Track.{Track, eventsOf, left, tickAt}
 use Rattle.words.proofs.Tracks.{left-cons, left-none, tick-next, track-sum}
 use Rattle.diagnostics.specs.declared.Group.{Group}
 use Rattle.diagnostics.specs.declared.Group.the-variants.{OffMeasure, System}
-use Rattle.diagnostics.specs.Found.{Found, FoundIn}
+use Rattle.findings.specs.Found.{Found, FoundIn}
 use Rattle.diagnostics.specs.Groups.{meterIn, offMeasure, codeOf, isFound, foundOf, foundOne, Searchable}
-use Rattle.diagnostics.proofs.Putting.{found-none, found-append, found-as}
+use Rattle.findings.proofs.Putting.{found-none, found-append, found-as}
 
 -- what is found in the events of two lists
 found-of-append : (g : Group) (track : ℕ) (es fs : List Event) → foundOf g track (es ++ fs) ≡ foundOf g track es ++ foundOf g track fs

@@ -15,9 +15,10 @@ use Rattle.words.specs.Track.{Track, eventsOf, stretch}
 use Rattle.words.proofs.Tracks.{track-part, length-stretch}
 use Rattle.piece.proofs.Cuts.{Cut, later, cut-start, cut-fits, cut-next, later-cons, later-none, whole-track}
 use Rattle.pairing.specs.Queues.{Grid, Empty}
-use Rattle.diagnostics.specs.Found.{Found, FoundIn}
-use Rattle.diagnostics.specs.Stages.{Fresh, Emptied, CanFind}
-use Rattle.diagnostics.proofs.Putting.{found-none, found-append, found-as}
+use Rattle.findings.specs.Found.{Found, FoundIn}
+use Rattle.unmatched.specs.Stages.{Fresh, Emptied}
+use Rattle.diagnostics.specs.Pieces.{CanFind}
+use Rattle.findings.proofs.Putting.{found-none, found-append, found-as}
 
 -- the tracks before size i are passed; f is what is found in a track
 pub record Walking (f : ℕ → List Event → List Diagnostic) (s ds ws : List ℕ) (at : ℕ) (p₀ d₀ : List ℕ) (i from next : ℕ) (p d : List ℕ) : Type 0 where

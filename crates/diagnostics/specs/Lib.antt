@@ -1,3 +1,2 @@
-pub mod Found
 pub mod Groups
-pub mod Stages
+pub mod Pieces

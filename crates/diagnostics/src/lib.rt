@@ -1,114 +1,18 @@
-// Section 10: the diagnostics of a piece, as places and details.
-//
-// Each is put where the outputs have room for it, so that counting is the same work with outputs of the function's own. The queues
-// of pending starts are made once; each track leaves them empty.
-ghost use Prim.Native.Nat.{ℕ, _+_, _*_, _/_, _%_, _≤_, _<_, _^_};
-ghost use mathlib.Core.List.{List, [], _∷_, map};
+// Section 10: the diagnostics of a piece, as places and details. The queues of pending starts are made once; each track leaves
+// them empty.
+ghost use Prim.Native.Nat.{_+_, _*_, _/_, _≤_, _<_, _^_};
+ghost use mathlib.Core.List.{[], map};
 ghost use mathlib.Core.Bool.{true};
 ghost use mathlib.Core.Path.{_≡_};
-ghost use lib.ListN.{length, set};
+ghost use lib.ListN.{length};
 ghost use Rattle.rules.specs.Lists.{All, written};
 ghost use Rattle.rules.specs.Piece.{piece, tracks, byteB, upperFigure, lowerFigure, wellFormed};
-ghost use Rattle.rules.specs.RawNotes.{Pairing};
 ghost use Rattle.rules.specs.Diagnostics.{placeOf, detailOf, timecodeFound, offMeasureFound, inTracks, systemFound, unmatchedFound, diagnostics};
 ghost use Rattle.laws.specs.Admitted.{Admitted};
-ghost use Rattle.words.specs.Track.{Track, eventsOf};
-ghost use Rattle.diagnostics.specs.Found.{diagnosticOf, eventAt, offAt, onAt, Packs, Found, FoundIn};
+ghost use Rattle.words.specs.Track.{eventsOf};
+ghost use Rattle.findings.specs.Found.{Found, FoundIn};
 ghost use Rattle.diagnostics.specs.Groups.{meterIn, meterLength, offMeasure, codeOf, isFound, foundOne, foundOf, Searchable};
-ghost use Rattle.diagnostics.specs.Stages.{Pairs, Turn, Turned, Fresh, PairedAll, Waits, AllTaken, Emptied, CanFind};
-use pairing::Paired;
-use pairing::Unclosed;
-
-// ---- one diagnostic
-
-struct Diagnostic {
-    code: u64,
-    track: u64,
-    event: u64,
-    tick: u64,
-    channel: u64,
-    key: u64,
-}
-
-// At an event, with no channel and key.
-fn at_event(code: u64, track: u64, event: u64, tick: u64) -> Diagnostic
-    ensures { λ r. ⌜ r ≡ eventAt code track event tick ⌝ }
-{
-    Diagnostic {
-        code,
-        track,
-        event,
-        tick,
-        channel: 255,
-        key: 255,
-    }
-}
-
-// An off without on: its key is absent.
-fn unmatched_off(track: u64, event: u64, tick: u64, channel: u64) -> Diagnostic
-    ensures { λ r. ⌜ r ≡ offAt track event tick channel ⌝ }
-{
-    let key = 255;
-    Diagnostic {
-        code: 4,
-        track,
-        event,
-        tick,
-        channel,
-        key,
-    }
-}
-
-// An on without off, at its start.
-fn unmatched_on(track: u64, u: Unclosed) -> Diagnostic
-    ensures { λ r. ⌜ r ≡ onAt track (u .number) (u .tick) (u .queue / 128) (u .queue % 128) ⌝ }
-{
-    Diagnostic {
-        code: 5,
-        track,
-        event: u.number,
-        tick: u.tick,
-        channel: (u.queue / 128) as u64,
-        key: (u.queue % 128) as u64,
-    }
-}
-
-impl Diagnostic {
-    fn place(self) -> u64
-        requires { ⌜ Packs self ⌝ }
-        ensures { λ r. ⌜ r ≡ placeOf (diagnosticOf self) ⌝ }
-    {
-        self.code * 281474976710656 + self.track * 4294967296 + self.event
-    }
-
-    fn detail(self) -> u64
-        requires { ⌜ Packs self ⌝ }
-        ensures { λ r. ⌜ r ≡ detailOf (diagnosticOf self) ⌝ }
-    {
-        self.tick * 65536 + self.channel * 256 + self.key
-    }
-}
-
-// Stores x at i, where the array has room for it.
-fn store(l: &mut [u64], i: usize, x: u64)
-    ensures { λ _. ⌜ now (l .exit) ≡ set (now (l .entry)) i x ⌝ }
-{
-    if i < l.len() {
-        l[i] = x;
-    }
-}
-
-// Puts a diagnostic, and answers where the next goes: the one place where the outputs are written.
-fn put(places: &mut [u64], details: &mut [u64], at: usize, d: Diagnostic) -> usize
-    requires { ⌜ Packs d × (at < 2 ^ 32) ⌝ }
-    ensures { λ r. ⌜ Found (diagnosticOf d ∷ []) at (now (places .entry)) (now (details .entry)) r (now (places .exit)) (now (details .exit)) ⌝ }
-{
-    let place = d.place();
-    let detail = d.detail();
-    store(places, at, place);
-    store(details, at, detail);
-    at + 1
-}
+ghost use Rattle.diagnostics.specs.Pieces.{CanFind};
 
 fn wide(x: u32) -> u64
     ensures { λ r. ⌜ r ≡ x ⌝ }
@@ -207,8 +111,8 @@ fn put_event(
         (now (places .entry)) (now (details .entry)) r (now (places .exit)) (now (details .exit)) ⌝ }
 {
     if is_found(group, tick, word) {
-        let d = at_event(code_of(group), track, event as u64, tick);
-        put(places, details, at, d)
+        let d = findings::at_event(code_of(group), track, event as u64, tick);
+        findings::put(places, details, at, d)
     } else {
         at
     }
@@ -274,165 +178,6 @@ fn system_events(
 
 // ---- groups 4 and 5: ons and offs
 
-// What was seen of a track: the tick reached, the starts that came, those that wait, and where the next diagnostic goes.
-struct Seen {
-    tick: u64,
-    starts: usize,
-    waiting: usize,
-    next: usize,
-}
-
-// One event: an off with nothing pending is put.
-fn take_event(
-    heads: &mut [[u32; 128]; 16],
-    tails: &mut [[u32; 128]; 16],
-    work: &mut [u64],
-    n: usize,
-    track: u64,
-    s: Seen,
-    tick: u64,
-    i: usize,
-    w: u32,
-    places: &mut [u64],
-    details: &mut [u64],
-) -> Seen
-    requires { ⌜ Turn (now heads) (now tails) (now work) n track s tick i w ⌝ }
-    ensures { λ r. ⌜ ((x : Pairing)
-        → Pairs (now (heads .entry)) (now (tails .entry)) (now (work .entry)) n (s .starts) (s .waiting) x
-        → Turned (now (heads .exit)) (now (tails .exit)) (now (work .exit)) n track x (record { number = i; tick = tick; word = w })
-        (now (places .entry)) (now (details .entry)) s r (now (places .exit)) (now (details .exit))) ⌝ }
-{
-    let m = s.starts;
-    let waiting = s.waiting;
-    let at = s.next;
-    let mut seen = s;
-    seen.tick = tick;
-    let p = pairing::pair_event(heads, tails, work, n, m, tick, i as u64, w);
-    match p {
-        Paired::Other => seen,
-        Paired::Started => {
-            seen.starts = m + 1;
-            seen.waiting = waiting + 1;
-            seen
-        }
-        Paired::Closed(_, _) => {
-            seen.waiting = waiting - 1;
-            seen
-        }
-        Paired::Unmatched => {
-            let channel = wide(words::byte_a(w));
-            let d = unmatched_off(track, i as u64, tick, channel);
-            seen.next = put(places, details, at, d);
-            seen
-        }
-    }
-}
-
-// Pairs the events of a track; its offs without ons are put.
-fn pair_track(
-    deltas: &[u32],
-    words: &[u32],
-    heads: &mut [[u32; 128]; 16],
-    tails: &mut [[u32; 128]; 16],
-    work: &mut [u64],
-    n: usize,
-    track: u64,
-    at: usize,
-    places: &mut [u64],
-    details: &mut [u64],
-) -> Seen
-    requires { ⌜ Fresh (now heads) (now tails) (now work) (now deltas) (now words) n track at ⌝ }
-    ensures { λ r. ⌜ PairedAll (now (heads .exit)) (now (tails .exit)) (now (work .exit)) (now (deltas .entry)) (now (words .entry)) n track at
-        (now (places .entry)) (now (details .entry)) r (now (places .exit)) (now (details .exit)) ⌝ }
-{
-    let mut s = Seen {
-        tick: 0,
-        starts: 0,
-        waiting: 0,
-        next: at,
-    };
-    let mut i = 0;
-    while i < deltas.len() {
-        let tick = s.tick + wide(deltas[i]);
-        s = take_event(
-            heads,
-            tails,
-            work,
-            n,
-            track,
-            s,
-            tick,
-            i,
-            words[i],
-            places,
-            details,
-        );
-        i += 1;
-    }
-    s
-}
-
-// The starts still pending, by channel, key, arrival: each is put, and the queues are empty after it.
-fn take_all(
-    heads: &mut [[u32; 128]; 16],
-    work: &[u64],
-    n: usize,
-    waiting: usize,
-    track: u64,
-    at: usize,
-    places: &mut [u64],
-    details: &mut [u64],
-) -> usize
-    requires { ⌜ Waits (now heads) (now work) n waiting track at ⌝ }
-    ensures { λ r. ⌜ ((t : List (List ℕ)) (m : ℕ) (x : Pairing)
-        → Pairs (now (heads .entry)) t (now (work .entry)) n m waiting x
-        → AllTaken (now (heads .exit)) track x at (now (places .entry)) (now (details .entry)) r (now (places .exit)) (now (details .exit))) ⌝ }
-{
-    let mut next = at;
-    let mut left = waiting;
-    let mut from = 0;
-    while 0 < left {
-        let u = pairing::take_pending(heads, work, n, from);
-        from = u.queue;
-        next = put(places, details, next, unmatched_on(track, u));
-        left -= 1;
-    }
-    next
-}
-
-// One track's offs without ons, then its ons without offs.
-fn unmatched_notes(
-    deltas: &[u32],
-    words: &[u32],
-    heads: &mut [[u32; 128]; 16],
-    tails: &mut [[u32; 128]; 16],
-    work: &mut [u64],
-    n: usize,
-    track: u64,
-    at: usize,
-    places: &mut [u64],
-    details: &mut [u64],
-) -> usize
-    requires { ⌜ Fresh (now heads) (now tails) (now work) (now deltas) (now words) n track at ⌝ }
-    ensures { λ r. ⌜ Emptied (now (heads .exit)) (now (tails .exit))
-        × FoundIn (unmatchedFound track (eventsOf (now (deltas .entry)) (now (words .entry)))) (length (now (deltas .entry))) at
-        (now (places .entry)) (now (details .entry)) r (now (places .exit)) (now (details .exit)) ⌝ }
-{
-    let s = pair_track(
-        deltas,
-        words,
-        heads,
-        tails,
-        work,
-        n,
-        track,
-        at,
-        places,
-        details,
-    );
-    take_all(heads, work, n, s.waiting, track, s.next, places, details)
-}
-
 // Offs without ons and ons without offs, track by track.
 fn unmatched_tracks(
     sizes: &[u32],
@@ -455,7 +200,7 @@ fn unmatched_tracks(
     let mut i = 2;
     while i < sizes.len() {
         let to = from + size(sizes[i]);
-        next = unmatched_notes(
+        next = unmatched::unmatched_notes(
             &deltas[from..to],
             &words[from..to],
             &mut heads,
@@ -482,7 +227,7 @@ fn find_timecode(sizes: &[u32], places: &mut [u64], details: &mut [u64]) -> usiz
         (now (places .entry)) (now (details .entry)) r (now (places .exit)) (now (details .exit)) ⌝ }
 {
     if sizes[0] / 32768 % 2 == 1 {
-        put(places, details, 0, at_event(1, 0, 0, 0))
+        findings::put(places, details, 0, findings::at_event(1, 0, 0, 0))
     } else {
         0
     }

@@ -2,7 +2,7 @@
 use native.Mathlib.Omega.{arith}
 use borrow.Author.Needs.{needs}
 use Rattle.laws.proofs.Refusals.{sizes-agree}
-use Rattle.diagnostics.proofs.Putting.{all-found}
+use Rattle.diagnostics.proofs.Groups.{all-found}
 use Rattle.diagnostics.proofs.find_all.Statement.{statement}
 use Rattle.diagnostics.proofs.find_all.Tie as tie
 

@@ -4,7 +4,7 @@ use mathlib.Core.Path.{_≡_}
 use native.Mathlib.Omega.{arith}
 use lib.ListN.{length, getD}
 use Rattle.rules.specs.Piece.{Event}
-use Rattle.diagnostics.proofs.Putting.{places-kept, details-kept}
+use Rattle.findings.proofs.Putting.{places-kept, details-kept}
 use Rattle.diagnostics.proofs.Searching.{Searching, searching-start, searching-more, searched, tick-below, one-at-most}
 use Rattle.diagnostics.proofs.find_events.Statement.{statement}
 use Rattle.diagnostics.proofs.find_events.Tie as tie

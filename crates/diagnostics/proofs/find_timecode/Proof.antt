@@ -3,7 +3,7 @@ use mathlib.Core.Path.{sym}
 use native.Mathlib.Omega.{arith}
 use borrow.Author.Needs.{needs}
 use borrow.Author.Tests.{eq-eqb, ne-eqb}
-use Rattle.diagnostics.proofs.Putting.{found-none}
+use Rattle.findings.proofs.Putting.{found-none}
 use Rattle.diagnostics.proofs.find_timecode.Statement.{statement}
 use Rattle.diagnostics.proofs.find_timecode.Tie as tie
 

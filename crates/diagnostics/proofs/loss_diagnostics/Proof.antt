@@ -1,6 +1,6 @@
 -- `loss_diagnostics`: with room for all, all are written.
 use borrow.Author.Needs.{needs}
-use Rattle.diagnostics.proofs.Putting.{places-written, details-written}
+use Rattle.findings.proofs.Putting.{places-written, details-written}
 use Rattle.diagnostics.proofs.loss_diagnostics.Statement.{statement}
 use Rattle.diagnostics.proofs.loss_diagnostics.Tie as tie
 

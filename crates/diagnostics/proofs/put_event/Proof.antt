@@ -2,7 +2,7 @@
 use mathlib.Core.Path.{sym, _∙_}
 use native.Mathlib.Omega.{arith}
 use borrow.Author.Needs.{needs}
-use Rattle.diagnostics.proofs.Putting.{found-none}
+use Rattle.findings.proofs.Putting.{found-none}
 use Rattle.diagnostics.proofs.Searching.{code-small, one-found, none-found}
 use Rattle.diagnostics.proofs.put_event.Statement.{statement}
 use Rattle.diagnostics.proofs.put_event.Tie as tie

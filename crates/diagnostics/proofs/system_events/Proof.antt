@@ -4,7 +4,7 @@ use mathlib.Core.Path.{_≡_}
 use native.Mathlib.Omega.{arith}
 use lib.ListN.{length}
 use Rattle.rules.specs.Diagnostics.{systemFound}
-use Rattle.diagnostics.proofs.Putting.{places-kept, details-kept}
+use Rattle.findings.proofs.Putting.{places-kept, details-kept}
 use Rattle.diagnostics.proofs.Walking.{Walking, walking-start, Ahead, walking-ahead, walking-fits, walking-track, walking-long, walking-number, walking-next, walking-end}
 use Rattle.diagnostics.proofs.system_events.Statement.{statement}
 use Rattle.diagnostics.proofs.system_events.Tie as tie

@@ -4,7 +4,7 @@ use mathlib.Core.Path.{_∙_}
 use native.Mathlib.Omega.{arith}
 use lib.ListN.{length}
 use Rattle.pairing.proofs.Grids.{zeros-grid, zeros-empty}
-use Rattle.diagnostics.proofs.Putting.{places-kept, details-kept}
+use Rattle.findings.proofs.Putting.{places-kept, details-kept}
 use Rattle.diagnostics.proofs.Walking.{Ahead, walking-ahead, walking-end, Tracking, tracking-start, tracking-fresh, tracking-next}
 use Rattle.diagnostics.proofs.unmatched_tracks.Statement.{statement}
 use Rattle.diagnostics.proofs.unmatched_tracks.Tie as tie

@@ -7,10 +7,8 @@ use native.Mathlib.Omega.{arith}
 use lib.ListN.{length, set, length-append, length-map}
 use lib.Seq.{sets, length-sets, sets-eq}
 use Rattle.rules.specs.Lists.{written}
-use Rattle.rules.specs.Piece.{Piece, tracks}
-use Rattle.rules.specs.Diagnostics.{Diagnostic, placeOf, detailOf, timecodeFound, offMeasureFound, inTracks, systemFound, unmatchedFound, diagnostics}
-use Rattle.rules.specs.Refusals.{mostEvents}
-use Rattle.diagnostics.specs.Found.{Found, FoundIn}
+use Rattle.rules.specs.Diagnostics.{Diagnostic, placeOf, detailOf}
+use Rattle.findings.specs.Found.{Found, FoundIn}
 
 sets-append : (xs ys l : List ℕ) (n m : ℕ) → m ≡ n + length xs → sets (sets l n xs) m ys ≡ sets l n (xs ++ ys)
 sets-append [] ys l n m e = ap (λ (k : ℕ). sets l k ys) (e ∙ add-zero n)
@@ -54,15 +52,6 @@ module _ {ds : List Diagnostic} {r : ℕ} {p₀ d₀ p d : List ℕ} (a : Found 
   pub details-written : length ds ≤ length d₀ → d ≡ written (map detailOf ds) d₀
   details-written h = a .details ∙ sets-written (map detailOf ds) d₀ (rw length-map h)
 
-found-in-append : {ds es : List Diagnostic} {j k at m r : ℕ} {p₀ d₀ p d p₁ d₁ : List ℕ} → FoundIn ds j at p₀ d₀ m p d → FoundIn es k m p d r p₁ d₁
+pub found-in-append : {ds es : List Diagnostic} {j k at m r : ℕ} {p₀ d₀ p d p₁ d₁ : List ℕ} → FoundIn ds j at p₀ d₀ m p d → FoundIn es k m p d r p₁ d₁
     → FoundIn (ds ++ es) (j + k) at p₀ d₀ r p₁ d₁
 found-in-append a b = record { found = found-append (a .found) (b .found); few = omega (arith, a .few, b .few) }
-
--- the groups, one after another
-pub all-found : (x : Piece) {k a b c r : ℕ} {p₀ d₀ p₁ d₁ p₂ d₂ p₃ d₃ p d : List ℕ} → k ≤ mostEvents → FoundIn (timecodeFound x) 1 0 p₀ d₀ a p₁ d₁
-    → FoundIn (offMeasureFound x) k a p₁ d₁ b p₂ d₂ → FoundIn (inTracks systemFound 0 (tracks x)) k b p₂ d₂ c p₃ d₃
-    → FoundIn (inTracks unmatchedFound 0 (tracks x)) k c p₃ d₃ r p d → FoundIn (diagnostics x) 1500001 0 p₀ d₀ r p d
-unfolding diagnostics
-all-found x few one two three four =
-    let all = found-in-append one (found-in-append two (found-in-append three four)) in
-    record { found = all .found; few = omega (arith, all .few) }

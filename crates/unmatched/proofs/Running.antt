@@ -16,11 +16,11 @@ use Rattle.words.proofs.Tracks.{left-cons, left-none, tick-next, track-sum, for
 use Rattle.pairing.specs.Outcome.{after}
 use Rattle.pairing.proofs.Chains.{queues-start}
 use Rattle.pairing.proofs.Outcomes.{pair-cons}
-use Rattle.diagnostics.specs.Found.{Found}
-use Rattle.diagnostics.specs.Stages.{Pairs, Turn, Turned, Fresh, PairedAll}
-use Rattle.diagnostics.specs.declared.Seen.{Seen}
-use Rattle.diagnostics.proofs.Putting.{found-none, found-append, found-as}
-use Rattle.diagnostics.proofs.Turns.{pairs-at}
+use Rattle.findings.specs.Found.{Found}
+use Rattle.unmatched.specs.Stages.{Pairs, Turn, Turned, Fresh, PairedAll}
+use Rattle.unmatched.specs.declared.Seen.{Seen}
+use Rattle.findings.proofs.Putting.{found-none, found-append, found-as}
+use Rattle.unmatched.proofs.Turns.{pairs-at}
 
 -- whether an event is a start
 abbrev on : Event → Bool

@@ -1,9 +1,9 @@
 -- `unmatched_notes` puts a track's offs without ons, then its ons without offs.
 use native.Mathlib.Omega.{arith}
 use borrow.Author.Needs.{needs}
-use Rattle.diagnostics.proofs.Taking.{notes-found}
-use Rattle.diagnostics.proofs.unmatched_notes.Statement.{statement}
-use Rattle.diagnostics.proofs.unmatched_notes.Tie as tie
+use Rattle.unmatched.proofs.Taking.{notes-found}
+use Rattle.unmatched.proofs.unmatched_notes.Statement.{statement}
+use Rattle.unmatched.proofs.unmatched_notes.Tie as tie
 
 take-all-requires : tie.Need-take-all-requires
 take-all-requires c κs =

@@ -5,15 +5,14 @@ use mathlib.Core.List.{List, [], _∷_, _++_, map}
 use mathlib.Core.Path.{_≡_}
 use lib.ListN.{length}
 use Rattle.rules.specs.Lists.{All, keep, sortBy, flag}
-use Rattle.rules.specs.Piece.{Piece, Event, wellFormed, isOn}
-use Rattle.rules.specs.RawNotes.{NoteEvent, Pairing, noteEvents, pairing, byChannel, mostNotes}
+use Rattle.rules.specs.Piece.{Event, wellFormed, isOn}
+use Rattle.rules.specs.RawNotes.{NoteEvent, Pairing, noteEvents, pairing, byChannel}
 use Rattle.rules.specs.Diagnostics.{unmatchedOff, unmatchedOn}
-use Rattle.laws.specs.Admitted.{Admitted}
 use Rattle.words.specs.Track.{Track, eventsOf}
 use Rattle.pairing.specs.Queues.{Grid, Empty, Queues}
 use Rattle.pairing.specs.Outcome.{after}
-use Rattle.diagnostics.specs.Found.{Found}
-use Rattle.diagnostics.specs.declared.Seen.{Seen}
+use Rattle.findings.specs.Found.{Found}
+use Rattle.unmatched.specs.declared.Seen.{Seen}
 
 -- a start whose tick and number fit a diagnostic
 pub record Fits (s : NoteEvent) : Type 0 where
@@ -83,9 +82,3 @@ pub record AllTaken (h : List (List ℕ)) (track : ℕ) (x : Pairing) (at : ℕ)
 pub record Emptied (h t : List (List ℕ)) : Type 0 where
   pub heads : Empty h
   pub tails : Grid t
-
--- ---- a piece: it is admitted, and the work area has room for the starts of each track
-pub record CanFind (x : Piece) (w : List ℕ) (n : ℕ) : Type 0 where
-  pub admitted : Admitted x
-  pub most : mostNotes x ≤ n
-  pub area : 16 * n ≤ length w

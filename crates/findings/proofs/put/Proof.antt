@@ -1,8 +1,8 @@
 -- `put` stores one place and one detail.
 use native.Mathlib.Omega.{arith}
 use borrow.Author.Needs.{needs}
-use Rattle.diagnostics.proofs.put.Statement.{statement}
-use Rattle.diagnostics.proofs.put.Tie as tie
+use Rattle.findings.proofs.put.Statement.{statement}
+use Rattle.findings.proofs.put.Tie as tie
 
 returns : tie.Need-returns
 returns c =

@@ -6,7 +6,7 @@ use lib.ListN.{length}
 use lib.Seq.{sets}
 use Rattle.rules.specs.Diagnostics as rules
 use Rattle.rules.specs.Diagnostics.{absent, placeOf, detailOf}
-use Rattle.diagnostics.specs.declared.Diagnostic.{Diagnostic}
+use Rattle.findings.specs.declared.Diagnostic.{Diagnostic}
 
 -- the diagnostic that a struct stands for
 abbrev pub diagnosticOf : Diagnostic → rules.Diagnostic

@@ -3,10 +3,10 @@ use Prim.Native.Nat.{_-_}
 use mathlib.Core.Path.{_≡_, refl, _∙_}
 use native.Mathlib.Omega.{arith}
 use lib.ListN.{length}
-use Rattle.diagnostics.proofs.Putting.{places-kept, details-kept}
-use Rattle.diagnostics.proofs.Running.{Running, running-start, running-turn, running-more, running-end}
-use Rattle.diagnostics.proofs.pair_track.Statement.{statement}
-use Rattle.diagnostics.proofs.pair_track.Tie as tie
+use Rattle.findings.proofs.Putting.{places-kept, details-kept}
+use Rattle.unmatched.proofs.Running.{Running, running-start, running-turn, running-more, running-end}
+use Rattle.unmatched.proofs.pair_track.Statement.{statement}
+use Rattle.unmatched.proofs.pair_track.Tie as tie
 
 abbrev Inv-loop : tie.InvT-loop
 Inv-loop deltas words heads₀ tails₀ work₀ n track at places₀ details₀ s₀ i₀ heads tails work places details s i =

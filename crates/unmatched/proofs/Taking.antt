@@ -14,10 +14,10 @@ use Rattle.pairing.specs.Queues.{Queues, Inside}
 use Rattle.pairing.specs.Steps.{Waiting, Taken}
 use Rattle.pairing.specs.declared.Unclosed.{Unclosed}
 use Rattle.pairing.proofs.Chains.{queues-end}
-use Rattle.diagnostics.specs.Found.{Found, FoundIn, Packs, diagnosticOf, onAt}
-use Rattle.diagnostics.specs.Stages.{Fits, Pairs, PairedAll, AllTaken, Emptied}
-use Rattle.diagnostics.specs.declared.Seen.{Seen}
-use Rattle.diagnostics.proofs.Putting.{found-none, found-append, found-as}
+use Rattle.findings.specs.Found.{Found, FoundIn, Packs, diagnosticOf, onAt}
+use Rattle.unmatched.specs.Stages.{Fits, Pairs, PairedAll, AllTaken, Emptied}
+use Rattle.unmatched.specs.declared.Seen.{Seen}
+use Rattle.findings.proofs.Putting.{found-none, found-append, found-as}
 
 -- the starts left are so many, and of the queues from `from` on
 pub record Taking (h t : List (List ℕ)) (w : List ℕ) (n m track at : ℕ) (x : Pairing) (p₀ d₀ : List ℕ) (left from next : ℕ) (p d : List ℕ) : Type 0 where

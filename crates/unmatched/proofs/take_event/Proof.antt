@@ -1,9 +1,9 @@
 -- `take_event` goes one event on, whatever was paired before: each arm is one case of the pairing's step.
 use native.Mathlib.Omega.{arith}
 use borrow.Author.Needs.{needs}
-use Rattle.diagnostics.proofs.Turns.{turned-other, turned-started, one-waits, turned-closed, turned-unmatched}
-use Rattle.diagnostics.proofs.take_event.Statement.{statement}
-use Rattle.diagnostics.proofs.take_event.Tie as tie
+use Rattle.unmatched.proofs.Turns.{turned-other, turned-started, one-waits, turned-closed, turned-unmatched}
+use Rattle.unmatched.proofs.take_event.Statement.{statement}
+use Rattle.unmatched.proofs.take_event.Tie as tie
 
 sub-seen : tie.Need-sub-seen
 sub-seen c =

@@ -2,8 +2,8 @@
 use mathlib.Core.Path.{sym}
 use borrow.Author.Needs.{needs}
 use lib.Seq.{set-out}
-use Rattle.diagnostics.proofs.store.Statement.{statement}
-use Rattle.diagnostics.proofs.store.Tie as tie
+use Rattle.findings.proofs.store.Statement.{statement}
+use Rattle.findings.proofs.store.Tie as tie
 
 returns-2 : tie.Need-returns-2
 returns-2 c = sym (set-out (c .before .args .l .now) _ _ (c .if1 .left))

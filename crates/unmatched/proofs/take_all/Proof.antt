@@ -2,10 +2,10 @@
 use Prim.Native.Nat.{_-_}
 use mathlib.Core.Path.{refl, _∙_}
 use native.Mathlib.Omega.{arith}
-use Rattle.diagnostics.proofs.Putting.{places-kept, details-kept}
-use Rattle.diagnostics.proofs.Taking.{Reach, taking-start, taking-waits, taken-packs, taking-more, taking-end}
-use Rattle.diagnostics.proofs.take_all.Statement.{statement}
-use Rattle.diagnostics.proofs.take_all.Tie as tie
+use Rattle.findings.proofs.Putting.{places-kept, details-kept}
+use Rattle.unmatched.proofs.Taking.{Reach, taking-start, taking-waits, taken-packs, taking-more, taking-end}
+use Rattle.unmatched.proofs.take_all.Statement.{statement}
+use Rattle.unmatched.proofs.take_all.Tie as tie
 
 abbrev Inv-loop : tie.InvT-loop
 Inv-loop heads₀ work n waiting track at places₀ details₀ next₀ left₀ from₀ heads places details next left from =

@@ -16,10 +16,10 @@ use Rattle.pairing.specs.declared.Paired.{Paired}
 use Rattle.pairing.specs.declared.Paired.the-variants.{Other, Started, Closed, Unmatched}
 use Rattle.pairing.proofs.Outcomes.{ClosedBy, does, starts-flag}
 use Rattle.pairing.proofs.Pending.{all-without, length-without}
-use Rattle.diagnostics.specs.Found.{Found, diagnosticOf, offAt}
-use Rattle.diagnostics.specs.Stages.{Fits, Pairs, Turned}
-use Rattle.diagnostics.specs.declared.Seen.{Seen}
-use Rattle.diagnostics.proofs.Putting.{found-none}
+use Rattle.findings.specs.Found.{Found, diagnosticOf, offAt}
+use Rattle.unmatched.specs.Stages.{Fits, Pairs, Turned}
+use Rattle.unmatched.specs.declared.Seen.{Seen}
+use Rattle.findings.proofs.Putting.{found-none}
 
 pub pairs-at : {h t : List (List ℕ)} {w : List ℕ} {n m r : ℕ} {x y : Pairing} → y ≡ x → Pairs h t w n m r x → Pairs h t w n m r y
 pairs-at e p = rw e p
