@@ -3,7 +3,7 @@ use Prim.Native.Nat.{ℕ, suc, _+_, _*_, _≤_, _<_}
 use mathlib.Core.Bool.{Bool}
 use mathlib.Core.List.{List, [], _∷_, _++_, map}
 use mathlib.Core.Logic.{⊎-elim}
-use mathlib.Core.Path.{_≡_, sym, ap, _∙_}
+use mathlib.Core.Path.{_≡_, refl, sym, ap, _∙_}
 use native.Mathlib.Nat.{pos-of-ne-zero}
 use native.Mathlib.Omega.{arith}
 use borrow.Author.Tests.{lt-ltb, le-ltb}
@@ -50,6 +50,10 @@ most-few x known = omega (arith, tracks-few (eventCounts x) (x .deltas) (x .word
 
 -- ---- outcomes
 
+no-elements : {A : Type 0} (xs : List A) → length xs ≡ 0 → xs ≡ []
+no-elements [] h = refl
+no-elements (x ∷ xs) h = absurd (omega arith)
+
 -- a call that is turned back leaves both outputs
 turned-back : {r : Result (List Diagnostic)} {places details : List ℕ} (n : ℕ) → r ≡ refused n → DiagnosticsWritten r places details (refused n) places details
 turned-back n e = record { answered = rw e; places = rw e; details = rw e }
@@ -91,6 +95,13 @@ module _ (x : Piece) (places details : List ℕ) (work n : ℕ) (none : firstNum
         outcome =
             passes-append (pieceRefusals x) _ _ (passes x none)
             ∙ rw (← most, le-ltb work (16 * n + 4096) enough, length-map, length-map, ← all, le-ltb (length places) count h, le-ltb (length details) count k)
+
+    -- there are none, and nothing is written
+    pub none-written : count ≡ 0 → DiagnosticsWritten (diagnosticsCall x (length places) (length details) work) places details (given 0) places details
+    none-written z =
+        let none-found : diagnostics x ≡ [] = no-elements (diagnostics x) (sym all ∙ z) in
+        let called = all-written {places₁ = places} {details₁ = details} (omega arith) (omega arith) (rw none-found) (rw none-found) in
+        rw z at called
 
 -- the work area is zeroed last
 pub work-zeroed : {r : Result (List Diagnostic)} {places details work places₁ details₁ work₁ : List ℕ} {a : Result ℕ}

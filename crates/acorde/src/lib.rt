@@ -262,6 +262,9 @@ fn write_diagnostics(
         return DiagnosticsAnswer::Refused(8);
     }
     let count = diagnostics::count_diagnostics(sizes, deltas, words, work, n);
+    if count == 0 {
+        return DiagnosticsAnswer::Given(0);
+    }
     if places.len() < count {
         return DiagnosticsAnswer::Refused(8);
     }

@@ -6,7 +6,7 @@ use Rattle.rules.specs.Piece.{piece}
 use Rattle.rules.specs.Refusals.{firstNumber, pieceRefusals}
 use Rattle.laws.specs.Admitted.{Admitted}
 use Rattle.piece.proofs.Numbers.{admits}
-use Rattle.acorde.proofs.DiagnosticsOutcomes.{most-few, number-refuses, work-short, places-short, details-short, all-written}
+use Rattle.acorde.proofs.DiagnosticsOutcomes.{most-few, number-refuses, work-short, none-written, places-short, details-short, all-written}
 use Rattle.acorde.proofs.write_diagnostics.Statement.{statement}
 use Rattle.acorde.proofs.write_diagnostics.Tie as tie
 
@@ -28,7 +28,7 @@ add-if2 : tie.Need-add-if2
 add-if2 c = record { fits = omega (arith, c .survey .ensures .most, most-few _ (known (c .before))) }
 
 returns-2 : tie.Need-returns-2
-returns-2 c = work-short _ _ _ _ _ (none (c .before .before)) (c .before .survey .ensures .most) (c .if2 .taken)
+returns-2 c = work-short _ _ _ _ _ (none (c .before .before)) (c .before .survey .ensures .most) (omega (arith, c .if2 .taken))
 
 count-diagnostics-requires : tie.Need-count-diagnostics-requires
 count-diagnostics-requires c κs =
@@ -36,32 +36,41 @@ count-diagnostics-requires c κs =
 
 returns-3 : tie.Need-returns-3
 returns-3 c =
-    places-short _ _ _ _ _ (none (c .before .before .before .before .before .before .before)) (c .before .before .before .before .before .before .survey .ensures .most) (c .before .before .before .before .before .if2 .left) _ (c .before .before .before .count-diagnostics .ensures .0) (c .if3 .taken)
+    let o = c .before .before .before in
+    none-written _ _ _ _ _ (none (o .before .before .before .before)) (o .before .before .before .survey .ensures .most) (o .before .before .if2 .left) _ (o .count-diagnostics .ensures .0) (omega (arith, c .if3 .taken))
 
 returns-4 : tie.Need-returns-4
 returns-4 c =
-    details-short _ _ _ _ _ (none (c .before .before .before .before .before .before .before .before)) (c .before .before .before .before .before .before .before .survey .ensures .most) (c .before .before .before .before .before .before .if2 .left) _ (c .before .before .before .before .count-diagnostics .ensures .0) (c .before .if3 .left)
-    (c .if4 .taken)
-
-loss-diagnostics-requires : tie.Need-loss-diagnostics-requires
-loss-diagnostics-requires c κs =
-    let counted = c .before .before .before .before .before .before .before .count-diagnostics .ensures .0 in (
-      record {
-        admitted = known (c .before .before .before .before .before .before .before .before .before .before .before);
-        most = omega (arith, c .before .before .before .before .before .before .before .before .before .before .survey .ensures .most);
-        area = omega (arith, c .before .before .before .before .before .before .before .before .before .if2 .left, c .before .before .before .before .before .before .before .count-diagnostics .kept .1 .1 .1 .0);
-      },
-      omega (arith, counted, c .before .before .before .before .if3 .left),
-      omega (arith, counted, c .before .before .before .if4 .left),
-    )
-
-cast-t24 : tie.Need-cast-t24
-cast-t24 c = omega (arith, c .before .before .before .before .before .before .before .before .before .before .before .before .before .before .count-diagnostics .ensures .1)
+    let o = c .before .before .before .before in
+    places-short _ _ _ _ _ (none (o .before .before .before .before)) (o .before .before .before .survey .ensures .most) (o .before .before .if2 .left) _ (o .count-diagnostics .ensures .0) (omega (arith, c .if4 .taken))
 
 returns-5 : tie.Need-returns-5
 returns-5 c =
-    all-written _ _ _ _ _ (none (c .before .before .before .before .before .before .before .before .before .before .before .before .before .before .before .before .before .before)) (c .before .before .before .before .before .before .before .before .before .before .before .before .before .before .before .before .before .survey .ensures .most) (c .before .before .before .before .before .before .before .before .before .before .before .before .before .before .before .before .if2 .left) _ (c .before .before .before .before .before .before .before .before .before .before .before .before .before .before .count-diagnostics .ensures .0) (c .before .before .before .before .before .before .before .before .before .before .before .if3 .left)
-    (c .before .before .before .before .before .before .before .before .before .before .if4 .left) (c .before .before .before .before .before .before .loss-diagnostics .ensures .0) (c .before .before .before .before .before .before .loss-diagnostics .ensures .1)
+    let o = c .before .before .before .before .before in
+    details-short _ _ _ _ _ (none (o .before .before .before .before)) (o .before .before .before .survey .ensures .most) (o .before .before .if2 .left) _ (o .count-diagnostics .ensures .0) (c .before .if4 .left)
+    (omega (arith, c .if5 .taken))
+
+loss-diagnostics-requires : tie.Need-loss-diagnostics-requires
+loss-diagnostics-requires c κs =
+    let o = c .before .before .before .before .before .before .before .before in
+    let counted = o .count-diagnostics .ensures .0 in (
+      record {
+        admitted = known (o .before .before .before .before);
+        most = omega (arith, o .before .before .before .survey .ensures .most);
+        area = omega (arith, o .before .before .if2 .left, o .count-diagnostics .kept .1 .1 .1 .0);
+      },
+      omega (arith, counted, c .before .before .before .before .if4 .left),
+      omega (arith, counted, c .before .before .before .if5 .left),
+    )
+
+cast-t24 : tie.Need-cast-t24
+cast-t24 c = omega (arith, c .before .before .before .before .before .before .before .before .before .before .before .before .before .before .before .count-diagnostics .ensures .1)
+
+returns-6 : tie.Need-returns-6
+returns-6 c =
+    let o = c .before .before .before .before .before .before .before .before .before .before .before .before .before .before .before in
+    all-written _ _ _ _ _ (none (o .before .before .before .before)) (o .before .before .before .survey .ensures .most) (o .before .before .if2 .left) _ (o .count-diagnostics .ensures .0) (c .before .before .before .before .before .before .before .before .before .before .before .if4 .left)
+    (c .before .before .before .before .before .before .before .before .before .before .if5 .left) (c .before .before .before .before .before .before .loss-diagnostics .ensures .0) (c .before .before .before .before .before .before .loss-diagnostics .ensures .1)
 
 pub write-diagnostics-spec : {M : Type 1} → statement M
 write-diagnostics-spec =
@@ -78,9 +87,11 @@ write-diagnostics-spec =
     returns-3
     (λ c. search needs)
     returns-4
+    (λ c. search needs)
+    returns-5
     loss-diagnostics-requires
     cast-t24
     (λ c. search needs)
     (λ c. search needs)
     (λ c. search needs)
-    returns-5)
+    returns-6)
