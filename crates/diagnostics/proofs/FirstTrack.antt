@@ -11,7 +11,7 @@ use Rattle.rules.specs.Lists.{firstOr}
 use Rattle.rules.specs.Diagnostics.{anyMeterLength, offMeasureFound}
 use Rattle.laws.specs.Admitted.{Admitted}
 use Rattle.laws.proofs.Refusals.{sizes-agree}
-use Rattle.words.specs.Track.{Track, eventsOf, stretch}
+use Rattle.words.specs.Track.{eventsOf, stretch}
 use Rattle.words.proofs.Tracks.{length-stretch}
 use Rattle.piece.specs.Spans.{IsSpan}
 use Rattle.piece.specs.declared.Span.{Span}

@@ -2,7 +2,7 @@
 use Prim.Native.Nat.{ℕ, suc, _+_, _%_, _≤_, _<_, _^_}
 use mathlib.Core.Bool.{Bool, true, false, not, _&&_}
 use mathlib.Core.List.{List, [], _∷_, _++_, map, map-append, append-nil}
-use mathlib.Core.Logic.{inl, inr, ⊎-elim}
+use mathlib.Core.Logic.{⊎-elim}
 use mathlib.Core.Path.{_≡_, refl, sym, ap, _∙_}
 use native.Mathlib.Nat.{zero-mod}
 use native.Mathlib.Numerals.{add-one}
@@ -14,11 +14,11 @@ use lib.Seq.{append-snoc, drop-cons}
 use Rattle.rules.specs.Lists.{keep, sum, firstOr}
 use Rattle.rules.specs.Piece.{Event, timed, isKind, kindOf}
 use Rattle.rules.specs.Changes.{Change, Meter, commonTime, meterOf, meterChanges}
-use Rattle.rules.specs.Diagnostics.{Diagnostic, atEvent}
+use Rattle.rules.specs.Diagnostics.{atEvent}
 use Rattle.laws.proofs.Lists.{keep-append}
 use Rattle.laws.proofs.Loops.{keep-done}
 use Rattle.laws.proofs.Order.{by-bool, by-eq}
-use Rattle.words.specs.Track.{Track, eventsOf, left, tickAt}
+use Rattle.words.specs.Track.{eventsOf, left, tickAt}
 use Rattle.words.proofs.Tracks.{left-cons, left-none, tick-next, track-sum}
 use Rattle.diagnostics.specs.declared.Group.{Group}
 use Rattle.diagnostics.specs.declared.Group.the-variants.{OffMeasure, System}

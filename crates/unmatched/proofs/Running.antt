@@ -1,17 +1,17 @@
 -- The events of a track, one after another: what is paired, then the pairing of the events left, is the pairing of all.
-use Prim.Native.Nat.{ℕ, _+_, _≤_, _<_, _^_}
+use Prim.Native.Nat.{ℕ, _+_, _≤_, _<_}
 use mathlib.Core.Bool.{Bool, true, false}
-use mathlib.Core.List.{List, [], _∷_, _++_, map, foldl, map-append}
+use mathlib.Core.List.{List, [], _∷_, map, foldl, map-append}
 use mathlib.Core.Logic.{⊎-elim}
 use mathlib.Core.Path.{_≡_, refl, sym, ap, _∙_}
 use native.Mathlib.Omega.{arith}
 use lib.ListN.{length, getD}
 use Rattle.rules.specs.Lists.{keep, flag, sum}
 use Rattle.rules.specs.Piece.{Event, isOn}
-use Rattle.rules.specs.RawNotes.{NoteEvent, noteEvents, Pairing, pairOne, noPairs, pairing}
+use Rattle.rules.specs.RawNotes.{noteEvents, Pairing, pairOne, noPairs, pairing}
 use Rattle.rules.specs.Diagnostics.{unmatchedOff}
 use Rattle.laws.proofs.Order.{by-bool}
-use Rattle.words.specs.Track.{Track, eventsOf, left, tickAt}
+use Rattle.words.specs.Track.{eventsOf, left, tickAt}
 use Rattle.words.proofs.Tracks.{left-cons, left-none, tick-next, track-sum, formed-at}
 use Rattle.pairing.specs.Outcome.{after}
 use Rattle.pairing.proofs.Chains.{queues-start}

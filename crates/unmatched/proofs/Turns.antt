@@ -1,18 +1,14 @@
 -- One event after another: the pairing, the counts and the offs without on go on together.
-use Prim.Native.Nat.{ℕ, _+_, _-_, _≤_, _<_, _^_}
-use mathlib.Core.List.{List, [], _∷_, _++_, map, append-nil}
+use Prim.Native.Nat.{ℕ, _+_, _-_, _<_, _^_}
+use mathlib.Core.List.{List, [], _∷_, append-nil}
 use mathlib.Core.Path.{_≡_, refl, sym, ap, _∙_}
-use native.Mathlib.Nat.{add-zero}
 use native.Mathlib.Omega.{arith}
-use lib.ListN.{length, length-append}
-use Rattle.rules.specs.Lists.{All, flag}
-use Rattle.rules.specs.Piece.{Event, byteA, isOn}
-use Rattle.rules.specs.RawNotes.{NoteEvent, noteEvent, Pairing}
-use Rattle.rules.specs.Diagnostics.{unmatchedOff}
+use lib.ListN.{length-append}
+use Rattle.rules.specs.Piece.{Event, byteA}
+use Rattle.rules.specs.RawNotes.{noteEvent, Pairing}
 use Rattle.laws.proofs.Lists.{All-append}
 use Rattle.pairing.specs.Queues.{Queues}
-use Rattle.pairing.specs.Outcome.{after, Stepped}
-use Rattle.pairing.specs.declared.Paired.{Paired}
+use Rattle.pairing.specs.Outcome.{Stepped}
 use Rattle.pairing.specs.declared.Paired.the-variants.{Other, Started, Closed, Unmatched}
 use Rattle.pairing.proofs.Outcomes.{ClosedBy, does, starts-flag}
 use Rattle.pairing.proofs.Pending.{all-without, length-without}

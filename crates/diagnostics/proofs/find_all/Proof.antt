@@ -11,22 +11,33 @@ find-timecode-requires c κs = omega (arith, sizes-agree _ (c .before .before .b
 
 find-off-measure-requires : tie.Need-find-off-measure-requires
 find-off-measure-requires c κs =
-    let known = c .before .before .before .before .before .before .before .before .before .before .before .before .before .before .before .pre .admitted in (known, omega (arith, known .events, c .before .before .before .before .before .before .find-timecode .ensures .few))
+    let one = c .before .before .before .before .before .before in
+    let known = one .before .before .before .before .before .before .before .before .before .pre .admitted in
+    (known, omega (arith, known .events, one .find-timecode .ensures .few))
 
 system-events-requires : tie.Need-system-events-requires
 system-events-requires c κs =
-    let known = c .before .before .before .before .before .before .before .before .before .before .before .before .before .before .before .before .before .before .before .before .before .before .pre .admitted in
-    (known, omega (arith, known .events, c .before .before .before .before .before .before .before .before .before .before .before .before .before .find-timecode .ensures .few, c .before .before .before .before .before .before .find-off-measure .ensures .few))
+    let two = c .before .before .before .before .before .before in
+    let one = two .before .before .before .before .before .before .before in
+    let known = one .before .before .before .before .before .before .before .before .before .pre .admitted in
+    (known, omega (arith, known .events, one .find-timecode .ensures .few, two .find-off-measure .ensures .few))
 
 unmatched-tracks-requires : tie.Need-unmatched-tracks-requires
 unmatched-tracks-requires c κs =
-    let can = c .before .before .before .before .before .before .before .before .before .before .before .before .before .before .before .before .before .before .before .before .before .before .before .before .before .before .before .before .before .before .pre in
-    (can, omega (arith, can .admitted .events, c .before .before .before .before .before .before .before .before .before .before .before .before .before .before .before .before .before .before .before .before .before .find-timecode .ensures .few, c .before .before .before .before .before .before .before .before .before .before .before .before .before .before .find-off-measure .ensures .few, c .before .before .before .before .before .before .before .system-events .ensures .few))
+    let three = c .before .before .before .before .before .before .before in
+    let two = three .before .before .before .before .before .before .before in
+    let one = two .before .before .before .before .before .before .before in
+    let can = one .before .before .before .before .before .before .before .before .before .pre in
+    (can, omega (arith, can .admitted .events, one .find-timecode .ensures .few, two .find-off-measure .ensures .few, three .system-events .ensures .few))
 
 returns : tie.Need-returns
 returns c =
-    all-found _ (c .before .before .before .before .before .before .before .before .before .before .before .before .before .before .before .before .before .before .before .before .before .before .before .before .before .before .before .before .before .before .before .before .before .before .before .before .before .pre .admitted .events) (c .before .before .before .before .before .before .before .before .before .before .before .before .before .before .before .before .before .before .before .before .before .before .before .before .before .before .before .before .find-timecode .ensures) (c .before .before .before .before .before .before .before .before .before .before .before .before .before .before .before .before .before .before .before .before .before .find-off-measure .ensures) (c .before .before .before .before .before .before .before .before .before .before .before .before .before .before .system-events .ensures)
-    (c .before .before .before .before .before .before .unmatched-tracks .ensures)
+    let four = c .before .before .before .before .before .before in
+    let three = four .before .before .before .before .before .before .before .before in
+    let two = three .before .before .before .before .before .before .before in
+    let one = two .before .before .before .before .before .before .before in
+    all-found _ (one .before .before .before .before .before .before .before .before .before .pre .admitted .events) (one .find-timecode .ensures) (two .find-off-measure .ensures) (three .system-events .ensures)
+    (four .unmatched-tracks .ensures)
 
 pub find-all-spec : {M : Type 1} → statement M
 find-all-spec =

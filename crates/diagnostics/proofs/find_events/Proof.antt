@@ -1,6 +1,5 @@
 -- `find_events` passes over a track. The invariant, `Searching`: what is found in the events passed is put.
 use Prim.Native.Nat.{_-_, _+_, _≤_}
-use mathlib.Core.Path.{_≡_}
 use native.Mathlib.Omega.{arith}
 use lib.ListN.{length, getD}
 use Rattle.rules.specs.Piece.{Event}

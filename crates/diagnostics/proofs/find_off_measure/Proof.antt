@@ -16,15 +16,19 @@ span c = c .first-track .ensures _ _ (c .before .before .before .before .before 
 
 first-meter-length-requires : tie.Need-first-meter-length-requires
 first-meter-length-requires c κs =
-    let known = c .before .before .before .before .before .before .before .before .pre .0 in
-    (omega (arith, c .before .before .ticks-per-quarter .ensures, quarter-small _ known), span-track _ known (span (c .before)) .formed)
+    let f = c .before in
+    let known = f .before .before .before .before .before .before .before .pre .0 in
+    (omega (arith, f .before .ticks-per-quarter .ensures, quarter-small _ known), span-track _ known (span f) .formed)
 
 find-events-requires : tie.Need-find-events-requires
-find-events-requires c κs = first-searchable _ (c .before .before .before .before .before .before .before .before .before .before .before .before .before .pre .0) (span (c .before .before .before .before .before .before)) (c .before .before .before .before .before .before .before .before .before .before .before .before .before .pre .1)
+find-events-requires c κs = let f = c .before .before .before .before .before .before in first-searchable _ (f .before .before .before .before .before .before .before .pre .0) (span f) (f .before .before .before .before .before .before .before .pre .1)
 
 returns : tie.Need-returns
 returns c =
-    off-found _ (c .before .before .before .before .before .before .before .before .before .before .before .before .before .before .before .before .before .before .pre .0) (span (c .before .before .before .before .before .before .before .before .before .before .before)) (c .before .before .before .before .before .before .before .before .before .before .before .before .ticks-per-quarter .ensures) (c .before .before .before .before .before .before .before .before .before .first-meter-length .ensures) (c .before .before .before .before .find-events .ensures)
+    let e = c .before .before .before .before in
+    let l = e .before .before .before .before .before in
+    let f = l .before .before in
+    off-found _ (f .before .before .before .before .before .before .before .pre .0) (span f) (f .before .ticks-per-quarter .ensures) (l .first-meter-length .ensures) (e .find-events .ensures)
 
 pub find-off-measure-spec : {M : Type 1} → statement M
 find-off-measure-spec =

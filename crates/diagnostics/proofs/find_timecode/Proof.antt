@@ -1,5 +1,4 @@
 -- `find_timecode` puts code 1 where bit 15 of the division is set.
-use mathlib.Core.Path.{sym}
 use native.Mathlib.Omega.{arith}
 use borrow.Author.Needs.{needs}
 use borrow.Author.Tests.{eq-eqb, ne-eqb}

@@ -1,5 +1,4 @@
 -- `is_found` asks the test of its group.
-use mathlib.Core.Path.{_∙_, sym}
 use borrow.Author.Needs.{needs}
 use Rattle.diagnostics.proofs.is_found.Statement.{statement}
 use Rattle.diagnostics.proofs.is_found.Tie as tie

@@ -1,5 +1,5 @@
 -- `is_off_measure` tests the kind first, then the length, then the tick.
-use mathlib.Core.Path.{sym, _∙_}
+use mathlib.Core.Path.{sym}
 use native.Mathlib.Omega.{arith}
 use borrow.Author.Needs.{needs}
 use Rattle.diagnostics.proofs.Searching.{off-other, off-none, off-is}

@@ -1,5 +1,5 @@
 -- `length_of` answers a meter's length: 4 p upper fits, since p is at most 65,535.
-use Prim.Native.Nat.{_*_, _≤_, _<_}
+use Prim.Native.Nat.{_*_, _≤_}
 use mathlib.Core.Path.{_∙_}
 use native.Mathlib.Nat.{mul-le-mul}
 use native.Mathlib.Omega.{arith}

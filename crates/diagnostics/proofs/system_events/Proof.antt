@@ -1,6 +1,5 @@
 -- `system_events` walks along the tracks. The invariant, `Walking`: what is found in the tracks passed is put.
-use Prim.Native.Nat.{_-_, _+_, _≤_}
-use mathlib.Core.Path.{_≡_}
+use Prim.Native.Nat.{_-_}
 use native.Mathlib.Omega.{arith}
 use lib.ListN.{length}
 use Rattle.rules.specs.Diagnostics.{systemFound}
@@ -34,8 +33,10 @@ find-events-requires c κs =
 
 loop-again : tie.Need-loop-again Inv-loop μ-loop
 loop-again c =
-    let pre = c .before .before .before .before .before .before .before .before .before .before .before .before .before .before .before .before .before .before .pre in
-    rw (c .before .before .before .before .before .before .before .before .before .size .ensures) (walking-next (pre .0) (c .before .before .before .before .before .before .before .before .before .before .before .before .loop .inv) (omega arith) (rw (c .before .before .before .before .before .before .before .before .before .size .ensures) at (c .before .before .before .before .find-events .ensures)))
+    let e = c .before .before .before .before in
+    let size = e .before .before .before .before .before in
+    let o = size .before .before .before in
+    rw (size .size .ensures) (walking-next (o .before .before .before .before .before .before .pre .0) (o .loop .inv) (omega arith) (rw (size .size .ensures) at (e .find-events .ensures)))
 
 pub system-events-spec : {M : Type 1} → statement M
 system-events-spec =

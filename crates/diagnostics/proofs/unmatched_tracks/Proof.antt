@@ -1,6 +1,5 @@
 -- `unmatched_tracks` walks along the tracks. The invariant, `Tracking`: what is found in the tracks passed is put, and no start waits.
 use Prim.Native.Nat.{_-_}
-use mathlib.Core.Path.{_∙_}
 use native.Mathlib.Omega.{arith}
 use lib.ListN.{length}
 use Rattle.pairing.proofs.Grids.{zeros-grid, zeros-empty}
@@ -28,10 +27,13 @@ unmatched-notes-requires c κs =
 
 loop-again : tie.Need-loop-again Inv-loop μ-loop
 loop-again c =
-    let pre = c .before .before .before .before .before .before .before .before .before .before .before .before .before .before .before .before .before .before .before .before .before .before .before .before .pre in
-    let found = c .before .before .before .before .before .before .unmatched-notes .ensures in
-    rw (c .before .before .before .before .before .before .before .before .before .before .before .before .before .before .size .ensures)
-    (tracking-next (pre .0) (pre .1) (c .before .before .before .before .before .before .before .before .before .before .before .before .before .before .before .before .before .loop .inv) (omega arith) (c .before .before .before .before .before .before .unmatched-notes .kept .1 .1 .1 .1 .0) (found .0) (rw (c .before .before .before .before .before .before .before .before .before .before .before .before .before .before .size .ensures) at (found .1)))
+    let e = c .before .before .before .before .before .before in
+    let size = e .before .before .before .before .before .before .before .before in
+    let o = size .before .before .before in
+    let pre = o .before .before .before .before .before .before .before .pre in
+    rw (size .size .ensures)
+    (tracking-next (pre .0) (pre .1) (o .loop .inv) (omega arith) (e .unmatched-notes .kept .1 .1 .1 .1 .0) (e .unmatched-notes .ensures .0)
+    (rw (size .size .ensures) at (e .unmatched-notes .ensures .1)))
 
 pub unmatched-tracks-spec : {M : Type 1} → statement M
 unmatched-tracks-spec =

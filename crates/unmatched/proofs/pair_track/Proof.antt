@@ -26,8 +26,12 @@ take-event-requires c κs = rw (c .before .before .before .before .before .befor
 
 loop-again : tie.Need-loop-again Inv-loop μ-loop
 loop-again c =
-    let p = c .before .before .before .before .before .before .before .before .before .before .before .before .before .before .before .before .before .loop .inv in
-    (c .before .before .before .before .before .before .take-event .kept .1 .1 .0 ∙ p .0, running-more (c .before .before .before .before .before .before .before .before .before .before .before .before .before .before .before .before .before .before .before .before .before .before .before .pre) (p .1) (omega arith) (rw (c .before .before .before .before .before .before .before .before .before .before .before .before .before .before .wide .ensures) at (c .before .before .before .before .before .before .take-event .ensures (p .1 .x) (p .1 .pairs))))
+    let e = c .before .before .before .before .before .before in
+    let o = e .before .before .before .before .before .before .before .before .before .before .before in
+    let p = o .loop .inv in (
+      e .take-event .kept .1 .1 .0 ∙ p .0,
+      running-more (o .before .before .before .before .before .before .pre) (p .1) (e .before .before .before .before .before .before .before .before .before .before .loop-test .taken) (rw (e .before .before .before .before .before .before .before .before .wide .ensures) at (e .take-event .ensures (p .1 .x) (p .1 .pairs))),
+    )
 
 pub pair-track-spec : {M : Type 1} → statement M
 pair-track-spec =

@@ -1,5 +1,4 @@
 -- `take_all` puts the starts still pending. The invariant, `Reach`: those put, then those left by channel, key, arrival, are all.
-use Prim.Native.Nat.{_-_}
 use mathlib.Core.Path.{refl, _∙_}
 use native.Mathlib.Omega.{arith}
 use Rattle.findings.proofs.Putting.{places-kept, details-kept}
