@@ -1,7 +1,8 @@
 /* The calls of the import for C. A piece is three arrays: sizes, deltas, words; each array passes as a pointer and a count
    of elements. Pointers are aligned and not null, also where the count is 0; outputs overlap neither each other nor the
    inputs. `number` is the refusal's number, 0 where the call is answered; beside a refusal every other field is 0 and no
-   output has changed. */
+   output has changed. A work area has at least 16 N + 4,096 elements, N the most note-ons above velocity 0 in one track;
+   it is zero after the call, also after a refusal. */
 #ifndef ACORDE_H
 #define ACORDE_H
 
@@ -62,6 +63,13 @@ AcordeCount acorde_bars(const uint32_t *sizes, size_t sizes_n, const uint32_t *d
 AcordeAutomation acorde_automation(const uint32_t *sizes, size_t sizes_n, const uint32_t *deltas, size_t deltas_n,
                                    const uint32_t *words, size_t words_n, uint32_t part, uint64_t *ticks,
                                    size_t ticks_n, uint32_t *out, size_t out_n);
+
+/* The diagnostics: their count; places and details are written. place = code * 2^48 + track * 2^32 + event, detail =
+   tick * 2^16 + channel * 2^8 + key, 255 where channel or key is absent. Codes: 1 timecode, 2 tempo or meter off the
+   measure, 3 system event, 4 off without on, 5 on without off. Numbers 1 to 5 and 8. */
+AcordeCount acorde_diagnostics(const uint32_t *sizes, size_t sizes_n, const uint32_t *deltas, size_t deltas_n,
+                               const uint32_t *words, size_t words_n, uint64_t *places, size_t places_n,
+                               uint64_t *details, size_t details_n, uint64_t *work, size_t work_n);
 
 #ifdef __cplusplus
 }

@@ -1,4 +1,5 @@
 pub mod AutomationOutcomes
 pub mod BarOutcomes
+pub mod DiagnosticsOutcomes
 pub mod Door
 pub mod Heads

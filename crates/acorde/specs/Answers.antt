@@ -1,7 +1,7 @@
 -- What each answer means: its number, or the values that document 01 asks for.
 use Prim.Native.Nat.{ℕ, _≤_, _<_}
 use mathlib.Core.Bool.{Bool, true, false, cond}
-use mathlib.Core.List.{List, [], _∷_}
+use mathlib.Core.List.{List, [], _∷_, map}
 use mathlib.Core.Option.{none, some}
 use mathlib.Core.Path.{_≡_}
 use lib.IntN.{pos}
@@ -9,10 +9,12 @@ use lib.ListN.{length}
 use Rattle.rules.specs.Changes as rules
 use Rattle.rules.specs.Piece.{Piece, Event}
 use Rattle.rules.specs.RawNotes.{parts, mostNotes}
-use Rattle.rules.specs.Refusals.{Result, refused, given, unless, firstNumber, noteRefusals, shortOutput}
+use Rattle.rules.specs.Refusals.{Result, refused, given, answers, writes, unless, firstNumber, noteRefusals, shortOutput}
 use Rattle.rules.specs.Bars.{barsIn, startsOf, marksIn, mostBars}
 use Rattle.rules.specs.Calls.{headCall, BarLists, AutomationCounts}
 use Rattle.rules.specs.Automation.{AutomationLists, automationLists}
+use Rattle.rules.specs.Diagnostics.{Diagnostic, placeOf, detailOf}
+use Rattle.rules.specs.Lists.{written}
 use Rattle.changes.specs.declared.Head as changes
 use Rattle.changes.specs.declared.PartHead as part
 use Rattle.acorde.specs.declared.Entry.{Entry}
@@ -21,6 +23,7 @@ use Rattle.acorde.specs.declared.PartCountAnswer as count
 use Rattle.acorde.specs.declared.PartHeadAnswer as part-head
 use Rattle.acorde.specs.declared.BarsAnswer as bars-answer
 use Rattle.acorde.specs.declared.AutomationAnswer as automation-answer
+use Rattle.acorde.specs.declared.DiagnosticsAnswer as diagnostics-answer
 
 -- A piece at the door: the first of 1 to 6 that applies, else 0; then how many parts it has, and N.
 pub record Entered (x : Piece) (r : Entry) : Type 0 where
@@ -82,3 +85,13 @@ automationOutcome p es room-ticks room-words =
     unless
     (shortOutput room-ticks (automationLists p es .ticks) ∷ shortOutput room-words (automationLists p es .words) ∷ [])
     (automationLists p es)
+
+abbrev pub diagnosticsAnswer : diagnostics-answer.DiagnosticsAnswer → Result ℕ
+diagnosticsAnswer (diagnostics-answer.the-variants.Refused n) = refused n
+diagnosticsAnswer (diagnostics-answer.the-variants.Given n) = given n
+
+-- the diagnostics call before its work area is zeroed: its answer and its outputs
+pub record DiagnosticsWritten (r : Result (List Diagnostic)) (places₀ details₀ : List ℕ) (answer : Result ℕ) (places₁ details₁ : List ℕ) : Type 0 where
+  pub answered : answer ≡ answers length r
+  pub places : places₁ ≡ written (writes (map placeOf) r) places₀
+  pub details : details₁ ≡ written (writes (map detailOf) r) details₀

@@ -2,13 +2,14 @@
 use Prim.Native.Nat.{ℕ}
 use mathlib.Core.Option.{Option, none, some}
 use lib.IntN.{pos}
-use mathlib.Core.List.{List}
+use mathlib.Core.List.{List, map}
 use mathlib.Core.Path.{_≡_}
 use lib.ListN.{length}
-use Rattle.rules.specs.Lists.{flag, written}
+use Rattle.rules.specs.Lists.{flag, written, cleared}
 use Rattle.rules.specs.Automation.{AutomationLists}
 use Rattle.rules.specs.Calls.{BarLists, AutomationCounts, countsOf}
 use Rattle.rules.specs.Changes as rules
+use Rattle.rules.specs.Diagnostics.{Diagnostic, placeOf, detailOf}
 use Rattle.rules.specs.Refusals.{Result, refused, given, answers, writes}
 use Rattle.changes.specs.declared.Head.{Head}
 use Rattle.acorde.specs.declared.entries.AcordeHead.{AcordeHead}
@@ -66,3 +67,12 @@ pub record AutomationEntered
   pub answered : answer ≡ automationEntry (answers countsOf r)
   pub ticks : ticks₁ ≡ written (writes (λ (a : AutomationLists). a .ticks) r) ticks₀
   pub words : words₁ ≡ written (writes (λ (a : AutomationLists). a .words) r) words₀
+
+-- after the entry of the diagnostics call of outcome r
+pub record DiagnosticsEntered
+    (r : Result (List Diagnostic)) (places₀ details₀ work₀ : List ℕ) (answer : AcordeCount) (places₁ details₁ work₁ : List ℕ)
+    : Type 0 where
+  pub answered : answer ≡ countEntry (answers length r)
+  pub places : places₁ ≡ written (writes (map placeOf) r) places₀
+  pub details : details₁ ≡ written (writes (map detailOf) r) details₀
+  pub work : work₁ ≡ cleared work₀

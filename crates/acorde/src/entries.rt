@@ -2,11 +2,12 @@
 ghost use mathlib.Core.Path.{_≡_};
 ghost use Rattle.rules.specs.Lists.{flag};
 ghost use Rattle.rules.specs.Piece.{piece};
-ghost use Rattle.rules.specs.Calls.{headCall, partCountCall, partHeadCall, barsCall, automationCall};
+ghost use Rattle.rules.specs.Calls.{headCall, partCountCall, partHeadCall, barsCall, automationCall, diagnosticsCall};
 ghost use lib.ListN.{length};
-ghost use Rattle.acorde.specs.Entries.{headValues, headEntry, countEntry, partHeadEntry, BarsEntered, AutomationEntered};
+ghost use Rattle.acorde.specs.Entries.{headValues, headEntry, countEntry, partHeadEntry, BarsEntered, AutomationEntered, DiagnosticsEntered};
 use crate::AutomationAnswer;
 use crate::BarsAnswer;
+use crate::DiagnosticsAnswer;
 use crate::HeadAnswer;
 use crate::PartCountAnswer;
 use crate::PartHeadAnswer;
@@ -162,5 +163,25 @@ pub extern "C" fn acorde_automation(
             programs: c.programs,
             pressures: c.pressures,
         },
+    }
+}
+
+#[no_mangle]
+pub extern "C" fn acorde_diagnostics(
+    sizes: &[u32],
+    deltas: &[u32],
+    words: &[u32],
+    places: &mut [u64],
+    details: &mut [u64],
+    work: &mut [u64],
+) -> AcordeCount
+    ensures { λ r. ⌜ DiagnosticsEntered
+        (diagnosticsCall (piece (now (sizes .entry)) (now (deltas .entry)) (now (words .entry)))
+        (length (now (places .entry))) (length (now (details .entry))) (length (now (work .entry))))
+        (now (places .entry)) (now (details .entry)) (now (work .entry)) r (now (places .exit)) (now (details .exit)) (now (work .exit)) ⌝ }
+{
+    match crate::diagnostics(sizes, deltas, words, places, details, work) {
+        DiagnosticsAnswer::Refused(number) => AcordeCount { number, count: 0 },
+        DiagnosticsAnswer::Given(count) => AcordeCount { number: 0, count },
     }
 }

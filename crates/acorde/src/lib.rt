@@ -1,12 +1,13 @@
 // The calls of the import. None asks anything of its caller: any arrays at all give an answer or one of document 01's numbers.
 ghost use mathlib.Core.Path.{_≡_};
+ghost use Rattle.rules.specs.Lists.{cleared};
 ghost use Rattle.rules.specs.Piece.{piece};
-ghost use Rattle.rules.specs.Calls.{partCountCall, partHeadCall, barsCall, BarsCalled, automationCall, AutomationCalled};
+ghost use Rattle.rules.specs.Calls.{partCountCall, partHeadCall, barsCall, BarsCalled, automationCall, AutomationCalled, diagnosticsCall, DiagnosticsCalled};
 ghost use Prim.Native.Nat.{_≤_, _<_};
 ghost use Rattle.words.specs.Track.{Track, eventsOf};
 ghost use Rattle.bars.specs.Walk.{CanWalk};
 ghost use lib.ListN.{length};
-ghost use Rattle.acorde.specs.Answers.{Entered, HeadCalled, countAnswer, partHeadAnswer, barsAnswer, barsOutcome, automationAnswer, automationOutcome};
+ghost use Rattle.acorde.specs.Answers.{Entered, HeadCalled, countAnswer, partHeadAnswer, barsAnswer, barsOutcome, automationAnswer, automationOutcome, diagnosticsAnswer, DiagnosticsWritten};
 
 mod entries;
 
@@ -220,4 +221,76 @@ pub fn automation(
     let from = track.from;
     let to = track.to;
     write_automation(p, &deltas[from..to], &words[from..to], ticks, out)
+}
+
+// Zeroes a work area, the last thing that a call with one does.
+fn clear(work: &mut [u64])
+    ensures { λ _. ⌜ now (work .exit) ≡ cleared (now (work .entry)) ⌝ }
+{
+    let mut i = 0;
+    while i < work.len() {
+        work[i] = 0;
+        i += 1;
+    }
+}
+
+pub enum DiagnosticsAnswer {
+    Refused(u32),
+    Given(u32),
+}
+
+// The diagnostics, counted before they are written. What it leaves in the work area is not said.
+fn write_diagnostics(
+    sizes: &[u32],
+    deltas: &[u32],
+    words: &[u32],
+    places: &mut [u64],
+    details: &mut [u64],
+    work: &mut [u64],
+) -> DiagnosticsAnswer
+    ensures { λ r. ⌜ DiagnosticsWritten
+        (diagnosticsCall (piece (now (sizes .entry)) (now (deltas .entry)) (now (words .entry)))
+        (length (now (places .entry))) (length (now (details .entry))) (length (now (work .entry))))
+        (now (places .entry)) (now (details .entry)) (diagnosticsAnswer r) (now (places .exit)) (now (details .exit)) ⌝ }
+{
+    let number = piece::admission(sizes, deltas, words);
+    if number != 0 {
+        return DiagnosticsAnswer::Refused(number);
+    }
+    let n = piece::survey(sizes, deltas, words).most;
+    if work.len() < 16 * n + 4096 {
+        return DiagnosticsAnswer::Refused(8);
+    }
+    let count = diagnostics::count_diagnostics(sizes, deltas, words, work, n);
+    if count == 0 {
+        return DiagnosticsAnswer::Given(0);
+    }
+    if places.len() < count {
+        return DiagnosticsAnswer::Refused(8);
+    }
+    if details.len() < count {
+        return DiagnosticsAnswer::Refused(8);
+    }
+    diagnostics::loss_diagnostics(sizes, deltas, words, places, details, work, n);
+    DiagnosticsAnswer::Given(count as u32)
+}
+
+// The diagnostics of a piece: how many, their places and their details. Refusals 1 to 5, 8.
+pub fn diagnostics(
+    sizes: &[u32],
+    deltas: &[u32],
+    words: &[u32],
+    places: &mut [u64],
+    details: &mut [u64],
+    work: &mut [u64],
+) -> DiagnosticsAnswer
+    ensures { λ r. ⌜ DiagnosticsCalled
+        (diagnosticsCall (piece (now (sizes .entry)) (now (deltas .entry)) (now (words .entry)))
+        (length (now (places .entry))) (length (now (details .entry))) (length (now (work .entry))))
+        (now (places .entry)) (now (details .entry)) (now (work .entry))
+        (diagnosticsAnswer r) (now (places .exit)) (now (details .exit)) (now (work .exit)) ⌝ }
+{
+    let answer = write_diagnostics(sizes, deltas, words, places, details, work);
+    clear(work);
+    answer
 }

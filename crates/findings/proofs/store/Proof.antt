@@ -1,0 +1,12 @@
+-- `store` sets one word; past the end there is none.
+use mathlib.Core.Path.{sym}
+use borrow.Author.Needs.{needs}
+use lib.Seq.{set-out}
+use Rattle.findings.proofs.store.Statement.{statement}
+use Rattle.findings.proofs.store.Tie as tie
+
+returns-2 : tie.Need-returns-2
+returns-2 c = sym (set-out (c .before .args .l .now) _ _ (c .if1 .left))
+
+pub store-spec : {M : Type 1} → statement M
+store-spec = tie.close (tie.spec (λ c. search needs) (λ c. search needs) (λ c. search needs) (λ c. search needs) returns-2)

@@ -1,0 +1,26 @@
+-- `unmatched_notes` puts a track's offs without ons, then its ons without offs.
+use native.Mathlib.Omega.{arith}
+use borrow.Author.Needs.{needs}
+use Rattle.unmatched.proofs.Taking.{notes-found}
+use Rattle.unmatched.proofs.unmatched_notes.Statement.{statement}
+use Rattle.unmatched.proofs.unmatched_notes.Tie as tie
+
+take-all-requires : tie.Need-take-all-requires
+take-all-requires c κs =
+    let p = c .before .before .before .before .before .before .before .before .before .before .pair-track .ensures in
+    let pre = c .before .before .before .before .before .before .before .before .before .before .before .before .before .before .before .before .before .before .before .before .before .pre in
+    record { tails = _; count = _; x = _; pairs = p .pairs; numbered = pre .numbered; room = omega (arith, p .few, pre .room) }
+
+returns : tie.Need-returns
+returns c = let p = c .before .before .before .before .before .before .before .before .before .before .before .before .before .before .before .pair-track .ensures in notes-found p (c .before .before .before .before .take-all .ensures _ _ _ (p .pairs))
+
+pub unmatched-notes-spec : {M : Type 1} → statement M
+unmatched-notes-spec =
+    tie.close
+    (tie.spec
+    (λ c κs. search needs)
+    take-all-requires
+    (λ c. search needs)
+    (λ c. search needs)
+    (λ c. search needs)
+    returns)
