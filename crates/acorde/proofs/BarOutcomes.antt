@@ -1,13 +1,13 @@
 -- The bars call: its outcome with this room, and what it leaves in the outputs.
 use Prim.Native.Nat.{ℕ, zero, suc, _+_, _≤_, _<_}
-use mathlib.Core.Bool.{Bool, true, false, cond}
+use mathlib.Core.Bool.{Bool}
 use mathlib.Core.List.{List, [], _∷_}
 use mathlib.Core.Logic.{inl, inr}
 use mathlib.Core.Path.{_≡_, refl, sym, ap, subst, _∙_}
 use native.Mathlib.Omega.{arith}
 use borrow.Author.Tests.{lt-ltb, le-ltb}
 use lib.ListN.{length, length-map}
-use Rattle.rules.specs.Piece.{Piece, Event, firstTrack, division, timecode, ticksPerQuarter}
+use Rattle.rules.specs.Piece.{Piece, Event, firstTrack, ticksPerQuarter}
 use Rattle.rules.specs.Changes.{Change, Meter, Key, tempoChanges, keyChanges}
 use Rattle.rules.specs.Bars.{Bar, barLength, barsIn, barsFrom, printed, printedFrom, marksFrom, startsOf, marksIn, mostBars, barsUpTo, endOfPiece}
 use Rattle.rules.specs.Refusals.{Result, refused, given, unless, noteRefusals}
@@ -15,12 +15,12 @@ use Rattle.rules.specs.Calls.{BarLists, BarsCalled, barsCall}
 use Rattle.laws.proofs.BarLaws.{bars-none, bars-last, bars-more}
 use Rattle.laws.proofs.Order.{by-le}
 use Rattle.laws.specs.Admitted.{Passes, Admitted}
-use Rattle.laws.proofs.Refusals.{passes-append, sizes-agree}
+use Rattle.laws.proofs.Refusals.{passes-append}
 use Rattle.words.specs.Track.{stretch}
 use Rattle.piece.specs.Spans.{IsSpan}
 use Rattle.piece.specs.declared.Span.{Span}
 use Rattle.piece.proofs.Cuts.{span-track}
-use Rattle.piece.proofs.Ranges.{end-at-most}
+use Rattle.piece.proofs.Ranges.{end-at-most, quarter-fits}
 use Rattle.bars.specs.Walk.{BarsAre, CanWalk}
 use Rattle.acorde.specs.Answers.{barsOutcome}
 use Rattle.acorde.specs.Entries.{countEntry, BarsEntered}
@@ -101,13 +101,6 @@ module _ (es : List Event) (p end : ℕ) (starts marks : List ℕ) where
       })
 
 -- ---- of a piece
-
-pub quarter-fits : (x : Piece) → Admitted x → ticksPerQuarter x ≤ 65535
-quarter-fits x known = go (timecode x)
-  where
-    go : (t : Bool) → cond t 480 (division x) ≤ 65535
-    go true = omega arith
-    go false = omega (arith, sizes-agree x (known .sizes) .division)
 
 pub bars-walked : (x : Piece) {r : Span} {p end : ℕ} → Admitted x → IsSpan (x .deltas) (x .words) (firstTrack x) r → p ≡ ticksPerQuarter x
     → end ≡ endOfPiece x → CanWalk (stretch (r .from) (r .to) (x .deltas)) (stretch (r .from) (r .to) (x .words)) p end

@@ -1,52 +1,21 @@
 -- The diagnostics call: its outcome with this room, and what it leaves in the outputs.
-use Prim.Native.Nat.{ℕ, suc, _+_, _*_, _≤_, _<_}
-use mathlib.Core.Bool.{Bool}
+use Prim.Native.Nat.{ℕ, _+_, _*_, _≤_, _<_}
 use mathlib.Core.List.{List, [], _∷_, _++_, map}
-use mathlib.Core.Logic.{⊎-elim}
 use mathlib.Core.Path.{_≡_, refl, sym, ap, _∙_}
 use native.Mathlib.Nat.{pos-of-ne-zero}
 use native.Mathlib.Omega.{arith}
 use borrow.Author.Tests.{lt-ltb, le-ltb}
-use lib.ListN.{length, take, drop, length-map, length-take, length-drop}
-use Rattle.rules.specs.Lists.{keep, largest, written, cleared}
-use Rattle.rules.specs.Piece.{Piece, Event, timed, cutTracks, eventCounts, isOn}
+use lib.ListN.{length, length-map}
+use Rattle.rules.specs.Lists.{written, cleared}
+use Rattle.rules.specs.Piece.{Piece}
 use Rattle.rules.specs.RawNotes.{mostNotes}
 use Rattle.rules.specs.Diagnostics.{Diagnostic, placeOf, detailOf, diagnostics}
-use Rattle.rules.specs.Refusals.{Result, refused, given, unless, firstNumber, pieceRefusals, mostEvents}
+use Rattle.rules.specs.Refusals.{Result, refused, given, unless, firstNumber, pieceRefusals}
 use Rattle.rules.specs.Calls.{diagnosticsCall, DiagnosticsCalled}
-use Rattle.laws.specs.Admitted.{Admitted}
-use Rattle.laws.proofs.Order.{by-bool}
 use Rattle.laws.proofs.Refusals.{passes-append}
 use Rattle.piece.proofs.Numbers.{passes, refuses}
 use Rattle.acorde.specs.Answers.{DiagnosticsWritten}
 use Rattle.acorde.specs.Entries.{countEntry, DiagnosticsEntered}
-
--- ---- N is at most the number of events
-
-keep-few : {A : Type 0} (f : A → Bool) (xs : List A) → length (keep f xs) ≤ length xs
-unfolding keep
-keep-few f [] = omega arith
-keep-few f (x ∷ xs) = let h = keep-few f xs in ⊎-elim (λ t. rw t (omega arith)) (λ t. rw t (omega arith)) (by-bool (f x))
-
-timed-few : (n t : ℕ) (ds ws : List ℕ) → length (timed n t ds ws) ≤ length ds
-unfolding timed
-timed-few n t [] ws = omega arith
-timed-few n t (d ∷ ds) [] = omega arith
-timed-few n t (d ∷ ds) (w ∷ ws) = let h = timed-few (suc n) (t + d) ds ws in omega arith
-
-abbrev ons : List Event → ℕ
-ons es = length (keep (λ (e : Event). isOn (e .word)) es)
-
-tracks-few : (ns ds ws : List ℕ) → largest (map ons (cutTracks ns ds ws)) ≤ length ds
-unfolding cutTracks
-tracks-few [] ds ws = omega arith
-tracks-few (n ∷ ns) ds ws =
-    let here = keep-few (λ (e : Event). isOn (e .word)) (timed 0 0 (take n ds) (take n ws)) in
-    omega (arith, timed-few 0 0 (take n ds) (take n ws), length-take n ds, tracks-few ns (drop n ds) (drop n ws), length-drop n ds)
-
-pub most-few : (x : Piece) → Admitted x → mostNotes x ≤ mostEvents
-unfolding mostNotes
-most-few x known = omega (arith, tracks-few (eventCounts x) (x .deltas) (x .words), known .events)
 
 -- ---- outcomes
 

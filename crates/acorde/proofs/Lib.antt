@@ -3,3 +3,4 @@ pub mod BarOutcomes
 pub mod DiagnosticsOutcomes
 pub mod Door
 pub mod Heads
+pub mod StaffOutcomes

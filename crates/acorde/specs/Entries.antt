@@ -7,15 +7,17 @@ use mathlib.Core.Path.{_≡_}
 use lib.ListN.{length}
 use Rattle.rules.specs.Lists.{flag, written, cleared}
 use Rattle.rules.specs.Automation.{AutomationLists}
-use Rattle.rules.specs.Calls.{BarLists, AutomationCounts, countsOf}
+use Rattle.rules.specs.Calls.{BarLists, StaffSize, AutomationCounts, countsOf}
 use Rattle.rules.specs.Changes as rules
 use Rattle.rules.specs.Diagnostics.{Diagnostic, placeOf, detailOf}
+use Rattle.rules.specs.Items.{StaffArrays}
 use Rattle.rules.specs.Refusals.{Result, refused, given, answers, writes}
 use Rattle.changes.specs.declared.Head.{Head}
 use Rattle.acorde.specs.declared.entries.AcordeHead.{AcordeHead}
 use Rattle.acorde.specs.declared.entries.AcordeAutomation.{AcordeAutomation}
 use Rattle.acorde.specs.declared.entries.AcordeCount.{AcordeCount}
 use Rattle.acorde.specs.declared.entries.AcordePartHead.{AcordePartHead}
+use Rattle.acorde.specs.declared.entries.AcordeStaff.{AcordeStaff}
 
 -- the entry of a head: has_key is 1 where there is a key; where there is none, fifths and minor are 0
 abbrev pub keyEntry : ℕ → rules.Meter → Option rules.Key → AcordeHead
@@ -75,4 +77,24 @@ pub record DiagnosticsEntered
   pub answered : answer ≡ countEntry (answers length r)
   pub places : places₁ ≡ written (writes (map placeOf) r) places₀
   pub details : details₁ ≡ written (writes (map detailOf) r) details₀
+  pub work : work₁ ≡ cleared work₀
+
+abbrev pub staffEntry : Result StaffSize → AcordeStaff
+staffEntry (refused n) = record { number = n; bars = 0; items = 0 }
+staffEntry (given s) = record { number = 0; bars = s .bars; items = s .items }
+
+-- after the entry of the staff size call of outcome r
+pub record StaffSizeEntered (r : Result StaffSize) (work₀ : List ℕ) (answer : AcordeStaff) (work₁ : List ℕ) : Type 0 where
+  pub answered : answer ≡ staffEntry r
+  pub work : work₁ ≡ cleared work₀
+
+-- after the entry of the engraving call of outcome r
+pub record EngraveEntered
+    (size : StaffSize) (r : Result StaffArrays) (counts₀ heads₀ keys₀ work₀ : List ℕ)
+    (answer : AcordeStaff) (counts₁ heads₁ keys₁ work₁ : List ℕ)
+    : Type 0 where
+  pub answered : answer ≡ staffEntry (answers (λ (s : StaffArrays). size) r)
+  pub counts : counts₁ ≡ written (writes (λ (s : StaffArrays). s .counts) r) counts₀
+  pub heads : heads₁ ≡ written (writes (λ (s : StaffArrays). s .heads) r) heads₀
+  pub keys : keys₁ ≡ written (writes (λ (s : StaffArrays). s .keys) r) keys₀
   pub work : work₁ ≡ cleared work₀

@@ -2,9 +2,9 @@
 ghost use mathlib.Core.Path.{_≡_};
 ghost use Rattle.rules.specs.Lists.{flag};
 ghost use Rattle.rules.specs.Piece.{piece};
-ghost use Rattle.rules.specs.Calls.{headCall, partCountCall, partHeadCall, barsCall, automationCall, diagnosticsCall};
+ghost use Rattle.rules.specs.Calls.{headCall, partCountCall, partHeadCall, barsCall, automationCall, diagnosticsCall, partSize, staffSizeCall, engraveCall};
 ghost use lib.ListN.{length};
-ghost use Rattle.acorde.specs.Entries.{headValues, headEntry, countEntry, partHeadEntry, BarsEntered, AutomationEntered, DiagnosticsEntered};
+ghost use Rattle.acorde.specs.Entries.{headValues, headEntry, countEntry, partHeadEntry, BarsEntered, AutomationEntered, DiagnosticsEntered, StaffSizeEntered, EngraveEntered};
 use crate::AutomationAnswer;
 use crate::BarsAnswer;
 use crate::DiagnosticsAnswer;
@@ -12,6 +12,7 @@ use crate::HeadAnswer;
 use crate::PartCountAnswer;
 use crate::PartHeadAnswer;
 use changes::Head;
+use engraver::StaffAnswer;
 
 #[repr(C)]
 pub struct AcordeHead {
@@ -44,6 +45,13 @@ pub struct AcordeAutomation {
     pub controllers: usize,
     pub programs: usize,
     pub pressures: usize,
+}
+
+#[repr(C)]
+pub struct AcordeStaff {
+    pub number: u32,
+    pub bars: usize,
+    pub items: usize,
 }
 
 fn flag(b: bool) -> u32
@@ -183,5 +191,63 @@ pub extern "C" fn acorde_diagnostics(
     match crate::diagnostics(sizes, deltas, words, places, details, work) {
         DiagnosticsAnswer::Refused(number) => AcordeCount { number, count: 0 },
         DiagnosticsAnswer::Given(count) => AcordeCount { number: 0, count },
+    }
+}
+
+#[no_mangle]
+pub extern "C" fn acorde_staff_size(
+    sizes: &[u32],
+    deltas: &[u32],
+    words: &[u32],
+    part: u32,
+    work: &mut [u64],
+) -> AcordeStaff
+    ensures { λ r. ⌜ StaffSizeEntered
+        (staffSizeCall (piece (now (sizes .entry)) (now (deltas .entry)) (now (words .entry))) part (length (now (work .entry))))
+        (now (work .entry)) r (now (work .exit)) ⌝ }
+{
+    match crate::staff_size(sizes, deltas, words, part, work) {
+        StaffAnswer::Refused(number) => AcordeStaff {
+            number,
+            bars: 0,
+            items: 0,
+        },
+        StaffAnswer::Given(s) => AcordeStaff {
+            number: 0,
+            bars: s.bars,
+            items: s.items,
+        },
+    }
+}
+
+#[no_mangle]
+pub extern "C" fn acorde_engrave(
+    sizes: &[u32],
+    deltas: &[u32],
+    words: &[u32],
+    part: u32,
+    counts: &mut [u32],
+    heads: &mut [u32],
+    keys: &mut [u64],
+    work: &mut [u64],
+) -> AcordeStaff
+    ensures { λ r. ⌜ EngraveEntered
+        (partSize (piece (now (sizes .entry)) (now (deltas .entry)) (now (words .entry))) part)
+        (engraveCall (piece (now (sizes .entry)) (now (deltas .entry)) (now (words .entry))) part
+        (length (now (counts .entry))) (length (now (heads .entry))) (length (now (keys .entry))) (length (now (work .entry))))
+        (now (counts .entry)) (now (heads .entry)) (now (keys .entry)) (now (work .entry))
+        r (now (counts .exit)) (now (heads .exit)) (now (keys .exit)) (now (work .exit)) ⌝ }
+{
+    match crate::engrave(sizes, deltas, words, part, counts, heads, keys, work) {
+        StaffAnswer::Refused(number) => AcordeStaff {
+            number,
+            bars: 0,
+            items: 0,
+        },
+        StaffAnswer::Given(s) => AcordeStaff {
+            number: 0,
+            bars: s.bars,
+            items: s.items,
+        },
     }
 }

@@ -2,7 +2,8 @@
 ghost use mathlib.Core.Path.{_≡_};
 ghost use Rattle.rules.specs.Lists.{cleared};
 ghost use Rattle.rules.specs.Piece.{piece};
-ghost use Rattle.rules.specs.Calls.{partCountCall, partHeadCall, barsCall, BarsCalled, automationCall, AutomationCalled, diagnosticsCall, DiagnosticsCalled};
+ghost use Rattle.rules.specs.Calls.{partCountCall, partHeadCall, barsCall, BarsCalled, automationCall, AutomationCalled, diagnosticsCall, DiagnosticsCalled, partSize, staffSizeCall, StaffSizeCalled, engraveCall, EngraveCalled};
+ghost use Rattle.engraver.specs.Parts.{answerOf};
 ghost use Prim.Native.Nat.{_≤_, _<_};
 ghost use Rattle.words.specs.Track.{Track, eventsOf};
 ghost use Rattle.bars.specs.Walk.{CanWalk};
@@ -14,6 +15,7 @@ mod entries;
 use automation::Counts;
 use changes::Head;
 use changes::PartHead;
+use engraver::StaffAnswer;
 
 // A piece at the door: its number, the count of its parts, and the most note-ons in one track.
 struct Entry {
@@ -291,6 +293,46 @@ pub fn diagnostics(
         (diagnosticsAnswer r) (now (places .exit)) (now (details .exit)) (now (work .exit)) ⌝ }
 {
     let answer = write_diagnostics(sizes, deltas, words, places, details, work);
+    clear(work);
+    answer
+}
+
+// The size of a part's staff, its bars and items: what engraving needs room for. Refusals 1 to 8.
+pub fn staff_size(
+    sizes: &[u32],
+    deltas: &[u32],
+    words: &[u32],
+    part: u32,
+    work: &mut [u64],
+) -> StaffAnswer
+    ensures { λ r. ⌜ StaffSizeCalled
+        (staffSizeCall (piece (now (sizes .entry)) (now (deltas .entry)) (now (words .entry))) part (length (now (work .entry))))
+        (now (work .entry)) (answerOf r) (now (work .exit)) ⌝ }
+{
+    let answer = part_staffs::measure_part(sizes, deltas, words, part, work);
+    clear(work);
+    answer
+}
+
+// A part's staff: four counts a bar, and a head and two words of keys an item. Refusals 1 to 8.
+pub fn engrave(
+    sizes: &[u32],
+    deltas: &[u32],
+    words: &[u32],
+    part: u32,
+    counts: &mut [u32],
+    heads: &mut [u32],
+    keys: &mut [u64],
+    work: &mut [u64],
+) -> StaffAnswer
+    ensures { λ r. ⌜ EngraveCalled
+        (partSize (piece (now (sizes .entry)) (now (deltas .entry)) (now (words .entry))) part)
+        (engraveCall (piece (now (sizes .entry)) (now (deltas .entry)) (now (words .entry))) part
+        (length (now (counts .entry))) (length (now (heads .entry))) (length (now (keys .entry))) (length (now (work .entry))))
+        (now (counts .entry)) (now (heads .entry)) (now (keys .entry)) (now (work .entry))
+        (answerOf r) (now (counts .exit)) (now (heads .exit)) (now (keys .exit)) (now (work .exit)) ⌝ }
+{
+    let answer = part_staffs::write_part(sizes, deltas, words, part, counts, heads, keys, work);
     clear(work);
     answer
 }

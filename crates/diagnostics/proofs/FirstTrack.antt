@@ -1,16 +1,14 @@
 -- The first track: its meter's length, and what is off the measure.
 use Prim.Native.Nat.{ℕ, _+_, _≤_, _<_, _^_}
-use mathlib.Core.Bool.{Bool, true, false, cond}
 use mathlib.Core.List.{List, map}
 use mathlib.Core.Path.{_≡_, sym, ap, _∙_}
 use native.Mathlib.Omega.{arith}
 use lib.ListN.{length}
-use Rattle.rules.specs.Piece.{Piece, Event, firstTrack, division, timecode, ticksPerQuarter}
+use Rattle.rules.specs.Piece.{Piece, Event, firstTrack, ticksPerQuarter}
 use Rattle.rules.specs.Changes.{Change, Meter, commonTime, meterChanges}
 use Rattle.rules.specs.Lists.{firstOr}
 use Rattle.rules.specs.Diagnostics.{anyMeterLength, offMeasureFound}
 use Rattle.laws.specs.Admitted.{Admitted}
-use Rattle.laws.proofs.Refusals.{sizes-agree}
 use Rattle.words.specs.Track.{eventsOf, stretch}
 use Rattle.words.proofs.Tracks.{length-stretch}
 use Rattle.piece.specs.Spans.{IsSpan}
@@ -23,13 +21,6 @@ use Rattle.findings.proofs.Putting.{found-as}
 use Rattle.diagnostics.proofs.Searching.{any-meter}
 
 module _ (x : Piece) (known : Admitted x) where
-  pub quarter-small : ticksPerQuarter x ≤ 65535
-  quarter-small = go (timecode x)
-    where
-      go : (t : Bool) → cond t 480 (division x) ≤ 65535
-      go true = omega arith
-      go false = omega (arith, sizes-agree x (known .sizes) .division)
-
   module _ {r : Span} (span : IsSpan (x .deltas) (x .words) (firstTrack x) r) where
     abbrev ds : List ℕ
     ds = stretch (r .from) (r .to) (x .deltas)

@@ -5,15 +5,15 @@ use mathlib.Core.List.{List, [], _∷_, _++_, map, append-nil, append-assoc}
 use mathlib.Core.Path.{_≡_, refl, sym, ap, _∙_}
 use native.Mathlib.Omega.{arith}
 use lib.ListN.{length, getD}
-use Rattle.rules.specs.Lists.{All, keep, largest}
-use Rattle.rules.specs.Piece.{Piece, Event, piece, tracks, sizesAgree, isOn}
-use Rattle.rules.specs.RawNotes.{mostNotes}
+use Rattle.rules.specs.Lists.{All}
+use Rattle.rules.specs.Piece.{Piece, Event, piece, tracks, sizesAgree}
 use Rattle.rules.specs.Diagnostics.{Diagnostic, inTracks, unmatchedFound}
 use Rattle.laws.specs.Admitted.{Admitted}
 use Rattle.laws.proofs.Refusals.{sizes-agree}
 use Rattle.words.specs.Track.{Track, eventsOf, stretch}
 use Rattle.words.proofs.Tracks.{track-part, length-stretch}
 use Rattle.piece.proofs.Cuts.{Cut, later, cut-start, cut-fits, cut-next, later-cons, later-none, whole-track}
+use Rattle.piece.proofs.Ranges.{ons, most-each}
 use Rattle.pairing.specs.Queues.{Grid, Empty}
 use Rattle.findings.specs.Found.{Found, FoundIn}
 use Rattle.unmatched.specs.Stages.{Fresh, Emptied}
@@ -92,18 +92,6 @@ module _ {f : ℕ → List Event → List Diagnostic} {s ds ws : List ℕ} {at :
       where
         number : i + 1 - 2 ≡ suc (i - 2)
         number = omega (arith, v .behind)
-
--- ---- the note-ons of each track
-abbrev ons : List Event → ℕ
-ons es = length (keep (λ (e : Event). isOn (e .word)) es)
-
-each-most : (ess : List (List Event)) (n : ℕ) → largest (map ons ess) ≤ n → All (λ es. ons es ≤ n) ess
-each-most [] n h = tt
-each-most (es ∷ ess) n h = (omega arith, each-most ess n (omega arith))
-
-pub most-each : (x : Piece) (n : ℕ) → mostNotes x ≤ n → All (λ es. ons es ≤ n) (tracks x)
-unfolding mostNotes
-most-each x n h = each-most (tracks x) n h
 
 -- ---- ons and offs, track after track: no start waits between two tracks
 pub record Tracking (s ds ws : List ℕ) (at n : ℕ) (w₀ p₀ d₀ : List ℕ) (h t : List (List ℕ)) (i from next : ℕ) (w p d : List ℕ) : Type 0 where

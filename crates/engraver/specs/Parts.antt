@@ -15,7 +15,7 @@ use Rattle.rules.specs.Refusals.{Result, refused, given, unless, answers, write
 use Rattle.rules.specs.Calls.{StaffSize}
 use Rattle.words.specs.Track.{Track, eventsOf}
 use Rattle.staff.specs.Bars.{voicesOf, VoicesHeld}
-use Rattle.engraver.specs.declared.Answer as answer
+use Rattle.engraver.specs.declared.StaffAnswer as answer
 use Rattle.engraver.specs.declared.Size.{Size}
 
 -- a track whose notes fit the work area
@@ -46,7 +46,7 @@ sizeIn p es end ts = sizeBy p (barsBy p es end) (voices (grid p (rawNotes ts)) (
 abbrev pub sizeOf : Size → StaffSize
 sizeOf r = record { bars = r .bars; items = r .items }
 
-abbrev pub answerOf : answer.Answer → Result StaffSize
+abbrev pub answerOf : answer.StaffAnswer → Result StaffSize
 answerOf (answer.the-variants.Refused n) = refused n
 answerOf (answer.the-variants.Given s) = given (sizeOf s)
 
@@ -63,12 +63,12 @@ pub record Outputs (size : StaffSize) (o : Result StaffArrays) (counts₀ heads�
   pub keys : keys₁ ≡ written (writes (λ (s : StaffArrays). s .keys) o) keys₀
 
 -- the staff of some voices in some bars
-abbrev pub Written : ℕ → List Bar → List (List Chord) → List ℕ → List ℕ → List ℕ → List ℕ → List ℕ → List ℕ → answer.Answer → Type 0
+abbrev pub Written : ℕ → List Bar → List (List Chord) → List ℕ → List ℕ → List ℕ → List ℕ → List ℕ → List ℕ → answer.StaffAnswer → Type 0
 Written p bs vs counts₀ heads₀ keys₀ counts₁ heads₁ keys₁ r =
     Outputs (sizeBy p bs vs) (outcome (arraysOf (staffOf p vs bs)) (length counts₀) (length heads₀) (length keys₀))
     counts₀ heads₀ keys₀ counts₁ heads₁ keys₁ (answerOf r)
 
 -- the staff of a track ts, on its own grid
-abbrev pub Engraved : List Event → ℕ → ℕ → List Event → List ℕ → List ℕ → List ℕ → List ℕ → List ℕ → List ℕ → answer.Answer → Type 0
+abbrev pub Engraved : List Event → ℕ → ℕ → List Event → List ℕ → List ℕ → List ℕ → List ℕ → List ℕ → List ℕ → answer.StaffAnswer → Type 0
 Engraved es p end ts counts₀ heads₀ keys₀ counts₁ heads₁ keys₁ r =
     Written p (barsBy p es end) (voices (grid p (rawNotes ts)) (rawNotes ts)) counts₀ heads₀ keys₀ counts₁ heads₁ keys₁ r

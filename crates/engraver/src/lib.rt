@@ -16,7 +16,7 @@ pub struct Size {
     pub items: usize,
 }
 
-pub enum Answer {
+pub enum StaffAnswer {
     Refused(u32),
     Given(Size),
 }
@@ -81,7 +81,7 @@ fn write_staff(
     counts: &mut [u32],
     heads: &mut [u32],
     keys: &mut [u64],
-) -> Answer
+) -> StaffAnswer
     requires { ⌜ CanWalk (now deltas) (now words) p end × (0 < p) × VoicesHeld n (now work) lens ⌝ }
     ensures { λ r. ⌜ Written p (barsBy p (eventsOf (now (deltas .entry)) (now (words .entry))) end) (voicesOf n (now (work .entry)) lens)
         (now (counts .entry)) (now (heads .entry)) (now (keys .entry)) (now (counts .exit)) (now (heads .exit)) (now (keys .exit)) r ⌝ }
@@ -102,13 +102,13 @@ fn write_staff(
         keys,
     );
     if counts.len() / 4 < s.bars {
-        return Answer::Refused(8);
+        return StaffAnswer::Refused(8);
     }
     if heads.len() < s.items {
-        return Answer::Refused(8);
+        return StaffAnswer::Refused(8);
     }
     if keys.len() / 2 < s.items {
-        return Answer::Refused(8);
+        return StaffAnswer::Refused(8);
     }
     staff::transcribe_track(
         true,
@@ -124,7 +124,7 @@ fn write_staff(
         heads,
         keys,
     );
-    Answer::Given(Size {
+    StaffAnswer::Given(Size {
         bars: s.bars,
         items: s.items,
     })
@@ -162,7 +162,7 @@ pub fn engrave(
     keys: &mut [u64],
     work: &mut [u64],
     n: usize,
-) -> Answer
+) -> StaffAnswer
     requires { ⌜ CanWalk (now «first_deltas») (now «first_words») p end × HasTrack (now deltas) (now words) p (now work) n ⌝ }
     ensures { λ r. ⌜ Engraved (eventsOf (now («first_deltas» .entry)) (now («first_words» .entry))) p end (eventsOf (now (deltas .entry)) (now (words .entry)))
         (now (counts .entry)) (now (heads .entry)) (now (keys .entry)) (now (counts .exit)) (now (heads .exit)) (now (keys .exit)) r ⌝ }

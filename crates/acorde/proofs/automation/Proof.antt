@@ -3,8 +3,8 @@ use borrow.Author.Needs.{needs}
 use native.Mathlib.Omega.{arith}
 use Rattle.laws.proofs.Refusals.{ticks-per-quarter-positive}
 use Rattle.piece.proofs.Cuts.{span-track}
+use Rattle.piece.proofs.Ranges.{quarter-fits}
 use Rattle.acorde.proofs.Door.{door-refuses-part, door-admits, no-such-part, part-found}
-use Rattle.acorde.proofs.BarOutcomes.{quarter-fits}
 use Rattle.acorde.proofs.AutomationOutcomes.{automation-refused, automation-answered}
 use Rattle.acorde.proofs.automation.Statement.{statement}
 use Rattle.acorde.proofs.automation.Tie as tie

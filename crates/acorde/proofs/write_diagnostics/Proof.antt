@@ -6,7 +6,8 @@ use Rattle.rules.specs.Piece.{piece}
 use Rattle.rules.specs.Refusals.{firstNumber, pieceRefusals}
 use Rattle.laws.specs.Admitted.{Admitted}
 use Rattle.piece.proofs.Numbers.{admits}
-use Rattle.acorde.proofs.DiagnosticsOutcomes.{most-few, number-refuses, work-short, none-written, places-short, details-short, all-written}
+use Rattle.piece.proofs.Ranges.{most-few}
+use Rattle.acorde.proofs.DiagnosticsOutcomes.{number-refuses, work-short, none-written, places-short, details-short, all-written}
 use Rattle.acorde.proofs.write_diagnostics.Statement.{statement}
 use Rattle.acorde.proofs.write_diagnostics.Tie as tie
 

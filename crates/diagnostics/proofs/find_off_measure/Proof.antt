@@ -4,7 +4,8 @@ use borrow.Author.Needs.{needs}
 use Rattle.rules.specs.Piece.{piece, firstTrack}
 use Rattle.piece.specs.Spans.{IsSpan}
 use Rattle.piece.proofs.Cuts.{span-track}
-use Rattle.diagnostics.proofs.FirstTrack.{quarter-small, first-searchable, off-found}
+use Rattle.piece.proofs.Ranges.{quarter-fits}
+use Rattle.diagnostics.proofs.FirstTrack.{first-searchable, off-found}
 use Rattle.diagnostics.proofs.find_off_measure.Statement.{statement}
 use Rattle.diagnostics.proofs.find_off_measure.Tie as tie
 
@@ -18,7 +19,7 @@ first-meter-length-requires : tie.Need-first-meter-length-requires
 first-meter-length-requires c κs =
     let f = c .before in
     let known = f .before .before .before .before .before .before .before .pre .0 in
-    (omega (arith, f .before .ticks-per-quarter .ensures, quarter-small _ known), span-track _ known (span f) .formed)
+    (omega (arith, f .before .ticks-per-quarter .ensures, quarter-fits _ known), span-track _ known (span f) .formed)
 
 find-events-requires : tie.Need-find-events-requires
 find-events-requires c κs = let f = c .before .before .before .before .before .before in first-searchable _ (f .before .before .before .before .before .before .before .pre .0) (span f) (f .before .before .before .before .before .before .before .pre .1)
