@@ -46,7 +46,7 @@ fn shortest(runs: usize, mut run: impl FnMut() -> std::time::Duration) -> f64 {
     times.fold(f64::INFINITY, f64::min)
 }
 
-pub fn bars() {
+pub fn all() {
     println!("bars, 10,000 of them        events  library ms  ns/event  reference ms  ns/event");
     type Make = fn(usize) -> Piece;
     let kinds: [(&str, Make); 3] = [
@@ -57,10 +57,11 @@ pub fn bars() {
     for (name, make) in kinds {
         for events in [100_000, 500_000] {
             let piece = make(events);
-            let (mut starts, mut marks) = (library::lent64(10_000), library::lent64(10_000));
+            let (mut starts, mut marks) = (library::Lent::new(10_000), library::Lent::new(10_000));
+            let given = library::Given::of(&piece);
             let ours = shortest(5, || {
                 let begun = Instant::now();
-                let answer = library::bars(&piece, &mut starts, &mut marks);
+                let answer = library::bars(&given, &mut starts, &mut marks);
                 assert_eq!(answer.number, 0);
                 begun.elapsed()
             });

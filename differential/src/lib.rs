@@ -15,4 +15,6 @@ pub mod packed;
 pub mod piece;
 pub mod reference;
 pub mod refusals;
+pub mod shrink;
+pub mod spelling;
 pub mod text;

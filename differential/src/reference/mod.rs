@@ -10,7 +10,7 @@ mod serialize {
 }
 
 pub use ask::{answers, beats, diagnostics, import, spelling, time_bars, voices};
-pub use voices::{Chord, Voices};
+pub use voices::{Chord, Snapped, Voices};
 
 // The names that the reference's own file imports.
 use acorde_core::{
