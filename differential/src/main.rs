@@ -12,10 +12,11 @@ use std::process::ExitCode;
 const USAGE: &str = "usage: differential COMMAND
   show [FILE]          the reference's answers to a piece, one fact a line
   print [FILE]         what the printing program prints for a piece
-  examples             document 01's examples against the reference
+  examples             document 01's examples against the reference and, with the feature, the library
   generate SEED COUNT  the reference over generated pieces
   piece SEED INDEX     one generated piece
   compare SEED COUNT [SECONDS]  the proved library against the reference (feature `library`)
+  large                         the same on the benchmark's pieces (feature `library`)
   bench                         times of both (feature `library`)
 A piece is three lines of decimals: sizes, deltas, words.";
 
@@ -37,6 +38,8 @@ fn main() -> ExitCode {
             bench::all();
             Ok(())
         }
+        #[cfg(feature = "library")]
+        ["large"] => bench::compared(),
         #[cfg(feature = "library")]
         ["compare", seed, count, ref seconds @ ..] if seconds.len() < 2 => {
             let limit = seconds.first().map_or(Ok(u64::MAX), |word| number(word));
@@ -84,8 +87,9 @@ fn print(file: Option<&&str>) -> Result<(), String> {
 
 fn examples() -> Result<(), String> {
     let mut differing = 0;
-    for (name, check) in EXAMPLES {
-        match check() {
+    for example in EXAMPLES {
+        let name = example.name;
+        match example.run() {
             Ok(()) => println!("ok {name}"),
             Err(what) => {
                 println!("differs {name}: {what}");
@@ -133,7 +137,7 @@ fn compare(seed: u64, count: u64, seconds: u64) -> Result<(), String> {
         })?;
         checked.map_err(|what| differing(&piece, format!("piece {seed} {compared}: {what}")))?;
         compared += 1;
-        if compared % 100_000 == 0 {
+        if compared % 20_000 == 0 {
             println!("{compared} pieces, {} s", begun.elapsed().as_secs());
         }
     }

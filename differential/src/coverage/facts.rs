@@ -1,10 +1,12 @@
 //! What is looked for in a piece.
 
-const FACTS: [&str; 62] = [
+const FACTS: [&str; 64] = [
     "timecode",
     "division below 16",
     "several parts",
     "32 parts and more tracks with notes",
+    "most notes not in part 0",
+    "most notes in a track that is no part",
     "track without notes",
     "events behind an end of track",
     "10,000 bars",

@@ -23,6 +23,15 @@ fn events(seen: &mut Seen, piece: &Piece, import: &Import) {
     seen.note("division below 16", piece.ticks_per_quarter() < 16);
     seen.note("several parts", import.parts.len() > 1);
     seen.note("32 parts and more tracks with notes", played.len() > 32);
+    let notes = |track: &&Vec<(u32, u32)>| track.iter().filter(|event| sounds(event.1)).count();
+    let most = played.iter().map(notes).max();
+    let first_with_most = played
+        .iter()
+        .map(notes)
+        .position(|count| Some(count) == most);
+    seen.note("most notes not in part 0", first_with_most > Some(0));
+    let no_part = first_with_most >= Some(import.parts.len());
+    seen.note("most notes in a track that is no part", no_part);
     seen.note("track without notes", played.len() < tracks.len());
     let behind_an_end = tracks.iter().any(|track| {
         let end = track.iter().position(|event| event.1 >> 24 == 6);
