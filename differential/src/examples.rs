@@ -2,10 +2,9 @@
 //! library, compared throughout.
 
 use crate::answers::{Answers, Import};
+use crate::checked::{Checked, same};
 use crate::piece::{Piece, word};
 use crate::{reference, text};
-
-type Checked = Result<(), String>;
 
 /// A piece, and a check of the reference's answers that says what differs.
 pub struct Example {
@@ -60,14 +59,6 @@ const TEMPO: (u32, u32) = (0, 2 << 24 | 500_000);
 
 fn of_lines(text: &str) -> Piece {
     Piece::parse(text).expect("three lines")
-}
-
-fn same<T: PartialEq + std::fmt::Debug>(what: &str, got: T, want: T) -> Checked {
-    if got == want {
-        Ok(())
-    } else {
-        Err(format!("{what}: got {got:?}, want {want:?}"))
-    }
 }
 
 /// The reference's answers, which must be an import without diagnostics.

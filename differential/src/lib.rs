@@ -4,6 +4,7 @@
 pub mod answers;
 #[cfg(feature = "library")]
 pub mod bench;
+pub mod checked;
 #[cfg(feature = "library")]
 pub mod compare;
 pub mod coverage;

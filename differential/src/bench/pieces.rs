@@ -29,13 +29,12 @@ impl Kind {
     fn event(self, index: usize) -> u32 {
         let turn = index / 2;
         let key = |turn: usize| (turn * 7 % 88 + 21) as u8;
-        match self {
-            Kind::Notes if index % 2 == 0 => word(9, 0, key(turn), 64),
-            Kind::Notes => word(8, 0, key(turn), 0),
-            Kind::Overlaps if index % 2 == 0 => word(9, 0, key(turn), 64),
-            Kind::Overlaps => word(8, 0, key(turn.saturating_sub(7)), 0),
-            Kind::Controllers => word(11, 0, 7, (index % 128) as u8),
-            Kind::Tempos => word(2, 7, (index % 256) as u8, 32),
+        match (self, index % 2) {
+            (Kind::Notes | Kind::Overlaps, 0) => word(9, 0, key(turn), 64),
+            (Kind::Notes, _) => word(8, 0, key(turn), 0),
+            (Kind::Overlaps, _) => word(8, 0, key(turn.saturating_sub(7)), 0),
+            (Kind::Controllers, _) => word(11, 0, 7, (index % 128) as u8),
+            (Kind::Tempos, _) => word(2, 7, (index % 256) as u8, 32),
         }
     }
 

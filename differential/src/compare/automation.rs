@@ -1,6 +1,7 @@
 //! Automation of one part.
 
-use super::{Case, Checked, Wanted, number, rooms, same};
+use super::{Case, Wanted, number, rooms};
+use crate::checked::{Checked, same};
 use crate::library::{self, Lent};
 use crate::{answers, packed};
 

@@ -1,7 +1,8 @@
 //! Bars and their marks.
 
-use super::{Case, Checked, Wanted, number, rooms, same};
+use super::{Case, Wanted, number, rooms};
 use crate::answers::Bar;
+use crate::checked::{Checked, same};
 use crate::library::{self, Count, Lent};
 use crate::packed;
 

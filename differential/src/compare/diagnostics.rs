@@ -1,7 +1,8 @@
 //! Diagnostics, which pieces without notes have too.
 
-use super::{Case, Checked, Wanted, number, rooms, same};
+use super::{Case, Wanted, number, rooms};
 use crate::answers::Diagnostic;
+use crate::checked::{Checked, same};
 use crate::library::{self, Count, Lent};
 use crate::packed;
 

@@ -1,7 +1,8 @@
 //! Heads, the part count and the parts' heads.
 
-use super::{Case, Checked, Wanted, number, same};
+use super::{Case, Wanted, number};
 use crate::answers::{Import, Part};
+use crate::checked::{Checked, same};
 use crate::library::{self, Count, Head, PartHead};
 
 pub fn answered(case: &Case, import: &Import) -> Checked {

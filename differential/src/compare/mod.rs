@@ -11,11 +11,10 @@ mod heads;
 mod staffs;
 
 use crate::answers::{Answers, Import};
+use crate::checked::Checked;
 use crate::library::Given;
 use crate::piece::Piece;
 use crate::{reference, refusals};
-
-type Checked = Result<(), String>;
 
 /// What a call must answer, or the number with which it must refuse.
 type Wanted<'a, T> = Result<&'a T, u32>;
@@ -79,13 +78,6 @@ fn no_part(case: &Case, part: u32, number: u32) -> Checked {
     heads::part(case, part, Err(number)).map_err(here)?;
     staffs::refused(case, part, number).map_err(here)?;
     automation::refused(case, part, number).map_err(here)
-}
-
-fn same<T: PartialEq + std::fmt::Debug>(what: &str, got: T, wanted: T) -> Checked {
-    if got == wanted {
-        return Ok(());
-    }
-    Err(format!("{what}: {got:?}, wanted {wanted:?}"))
 }
 
 /// The number of a call's answer: 0 beside what it answers.

@@ -1,7 +1,8 @@
 //! Staff size and staff of one part.
 
-use super::{Case, Checked, Wanted, number, rooms, same};
+use super::{Case, Wanted, number, rooms};
 use crate::answers::{Measure, Spelled};
+use crate::checked::{Checked, same};
 use crate::library::{self, Lent, StaffSize};
 use crate::{packed, spelling};
 

@@ -69,7 +69,10 @@ impl Layout {
             6 => {
                 let sixteenth = (self.quarter / 4).max(1);
                 self.at += sixteenth * random.pick(&[0, 1, 2]);
-                let late = if number % 10 == 0 { sixteenth / 2 } else { 0 };
+                let late = match number % 10 {
+                    0 => sixteenth / 2,
+                    _ => 0,
+                };
                 return (at + late, at + late + sixteenth * random.between(1, 5));
             }
             _ => (track.some_tick(random), random.below(3 * self.quarter + 1)),

@@ -1,5 +1,6 @@
 //! Arrays lent to the library. Each stands between two canaries.
 
+use crate::checked::Checked;
 use std::fmt::LowerHex;
 
 /// An element of a lent array.
@@ -62,7 +63,7 @@ impl<T: Cell> Lent<T> {
     }
 
     /// The list was written to the front, and nothing else changed.
-    pub fn holds(&self, what: &str, list: &[T]) -> Result<(), String> {
+    pub fn holds(&self, what: &str, list: &[T]) -> Checked {
         self.is(what, |index| match list.get(index) {
             Some(element) => *element,
             None => T::content(index),
@@ -70,16 +71,16 @@ impl<T: Cell> Lent<T> {
     }
 
     /// As it was lent.
-    pub fn untouched(&self, what: &str) -> Result<(), String> {
+    pub fn untouched(&self, what: &str) -> Checked {
         self.holds(what, &[])
     }
 
     /// Zeros throughout.
-    pub fn cleared(&self, what: &str) -> Result<(), String> {
+    pub fn cleared(&self, what: &str) -> Checked {
         self.is(what, |_| T::ZERO)
     }
 
-    fn is(&self, what: &str, wanted: impl Fn(usize) -> T) -> Result<(), String> {
+    fn is(&self, what: &str, wanted: impl Fn(usize) -> T) -> Checked {
         let ends = [self.cells.first(), self.cells.last()];
         if ends != [Some(&T::CANARY); 2] {
             return Err(format!("{what}: written beside the array"));

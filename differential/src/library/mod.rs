@@ -2,6 +2,7 @@
 
 mod lent;
 
+use crate::checked::Checked;
 use crate::piece::Piece;
 pub use lent::Lent;
 
@@ -85,7 +86,7 @@ impl Given {
     }
 
     /// The arrays are still those of the piece.
-    pub fn holds(&self, piece: &Piece) -> Result<(), String> {
+    pub fn holds(&self, piece: &Piece) -> Checked {
         self.sizes.holds("sizes given", &piece.sizes)?;
         self.deltas.holds("deltas given", &piece.deltas)?;
         self.words.holds("words given", &piece.words)
