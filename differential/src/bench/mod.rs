@@ -35,9 +35,10 @@ fn runs(kind: Kind) -> usize {
 
 const ABOUT: &str = "\
 Pieces of 10,000 bars of 4/4 at 480 ticks per quarter, events over all of it, one held note in each part. Milliseconds,
-the shortest of five runs; of the reference's runs on tempos only one. Freeing memory is not timed.
+the shortest of five runs; the reference's bars and imports of tempos are run once. Freeing what it answers is not timed.
 Library: whole calls from the piece's arrays, admission included; arrays lent once, before the time runs.
-Reference: the file as the stand-in parses it is given, but for `import`.";
+Reference: the file as the stand-in parses it is given, but for `import`.
+ns/event is the library's; ratio is the first time over the second, library over reference.";
 
 pub fn all() {
     println!("{ABOUT}\n");

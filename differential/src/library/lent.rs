@@ -62,8 +62,9 @@ impl<T: Cell> Lent<T> {
         &mut self.cells[1..end]
     }
 
-    /// The list was written to the front, and nothing else changed.
+    /// The list was written to the front, and nothing else changed. The array has room for it.
     pub fn holds(&self, what: &str, list: &[T]) -> Checked {
+        assert!(list.len() <= self.elements().len(), "{what}: no room");
         self.is(what, |index| match list.get(index) {
             Some(element) => *element,
             None => T::content(index),
