@@ -9,14 +9,7 @@ fn main() {
     println!("cargo::rerun-if-changed=build.rs");
     println!("cargo::rerun-if-changed=slicing.rs");
     if env::var_os("CARGO_FEATURE_LIBRARY").is_some() {
-        let package = env::var("CARGO_MANIFEST_DIR").expect("cargo sets CARGO_MANIFEST_DIR");
-        let folder = Path::new(&package).join("../target/staticlib");
-        println!(
-            "cargo::rerun-if-changed={}",
-            folder.join("libacorde.a").display()
-        );
-        println!("cargo::rustc-link-search={}", folder.display());
-        println!("cargo::rustc-link-lib=static=acorde");
+        link_library();
     }
     let out = env::var("OUT_DIR").expect("cargo sets OUT_DIR");
     let (out, reference) = (Path::new(&out), Path::new(slicing::REFERENCE));
@@ -26,4 +19,16 @@ fn main() {
             .unwrap_or_else(|error| panic!("{file}: {error}"));
         fs::write(out.join(name), text).expect("the slice can be written");
     }
+}
+
+/// libacorde.a of the folder that ACORDE_LIBRARY names, else of the one that `rt staticlib` fills.
+fn link_library() {
+    let package = env::var("CARGO_MANIFEST_DIR").expect("cargo sets CARGO_MANIFEST_DIR");
+    let named = env::var("ACORDE_LIBRARY").unwrap_or("../target/staticlib".into());
+    let folder = Path::new(&package).join(named);
+    let library = folder.join("libacorde.a");
+    println!("cargo::rerun-if-env-changed=ACORDE_LIBRARY");
+    println!("cargo::rerun-if-changed={}", library.display());
+    println!("cargo::rustc-link-search={}", folder.display());
+    println!("cargo::rustc-link-lib=static=acorde");
 }

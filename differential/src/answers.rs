@@ -14,6 +14,14 @@ pub struct Import {
     pub parts: Vec<Part>,
 }
 
+impl Import {
+    /// The items of all parts, bar by bar and voice by voice.
+    pub fn items(&self) -> impl Iterator<Item = &Item> {
+        let measures = self.parts.iter().flat_map(|part| &part.staff);
+        measures.flatten().flatten()
+    }
+}
+
 #[derive(Debug, Clone, PartialEq, Eq)]
 pub struct Head {
     pub tempo: u16,

@@ -4,6 +4,7 @@
 pub mod answers;
 #[cfg(feature = "library")]
 pub mod bench;
+pub mod checked;
 #[cfg(feature = "library")]
 pub mod compare;
 pub mod coverage;
@@ -15,4 +16,6 @@ pub mod packed;
 pub mod piece;
 pub mod reference;
 pub mod refusals;
+pub mod shrink;
+pub mod spelling;
 pub mod text;

@@ -3,6 +3,8 @@
 use differential::coverage::Report;
 use differential::examples::EXAMPLES;
 use differential::piece::Piece;
+#[cfg(feature = "library")]
+use differential::{bench, compare, shrink};
 use differential::{generate, reference, text};
 use std::io::Read;
 use std::process::ExitCode;
@@ -10,10 +12,11 @@ use std::process::ExitCode;
 const USAGE: &str = "usage: differential COMMAND
   show [FILE]          the reference's answers to a piece, one fact a line
   print [FILE]         what the printing program prints for a piece
-  examples             document 01's examples against the reference
+  examples             document 01's examples against the reference and, with the feature, the library
   generate SEED COUNT  the reference over generated pieces
   piece SEED INDEX     one generated piece
   compare SEED COUNT [SECONDS]  the proved library against the reference (feature `library`)
+  large                         the same on the benchmark's pieces (feature `library`)
   bench                         times of both (feature `library`)
 A piece is three lines of decimals: sizes, deltas, words.";
 
@@ -32,9 +35,11 @@ fn main() -> ExitCode {
         }),
         #[cfg(feature = "library")]
         ["bench"] => {
-            differential::bench::bars();
+            bench::all();
             Ok(())
         }
+        #[cfg(feature = "library")]
+        ["large"] => bench::compared(),
         #[cfg(feature = "library")]
         ["compare", seed, count, ref seconds @ ..] if seconds.len() < 2 => {
             let limit = seconds.first().map_or(Ok(u64::MAX), |word| number(word));
@@ -82,8 +87,9 @@ fn print(file: Option<&&str>) -> Result<(), String> {
 
 fn examples() -> Result<(), String> {
     let mut differing = 0;
-    for (name, check) in EXAMPLES {
-        match check() {
+    for example in EXAMPLES {
+        let name = example.name;
+        match example.run() {
             Ok(()) => println!("ok {name}"),
             Err(what) => {
                 println!("differs {name}: {what}");
@@ -102,43 +108,49 @@ fn run(seed: u64, count: u64) -> Result<(), String> {
     let mut report = Report::default();
     for index in 0..count {
         let piece = generate::numbered(seed, index);
-        let add = std::panic::AssertUnwindSafe(|| report.add(&piece));
-        std::panic::catch_unwind(add).map_err(|_| format!("at piece {seed} {index}"))?;
+        named(seed, index, || {
+            report.add(&piece, &reference::answers(&piece))
+        })?;
     }
     print!("{report}");
     Ok(())
+}
+
+/// Does what may fail an assertion of this package; then the piece's number is the error.
+fn named<T>(seed: u64, index: u64, run: impl FnOnce() -> T) -> Result<T, String> {
+    let run = std::panic::AssertUnwindSafe(run);
+    std::panic::catch_unwind(run).map_err(|_| format!("at piece {seed} {index}"))
 }
 
 /// The library against the reference, until a piece differs or the time is over.
 #[cfg(feature = "library")]
 fn compare(seed: u64, count: u64, seconds: u64) -> Result<(), String> {
     let begun = std::time::Instant::now();
-    for index in 0..count {
-        if index % 100_000 == 0 && index > 0 {
-            println!(
-                "{index} pieces of seed {seed} agree, {} s",
-                begun.elapsed().as_secs()
-            );
-        }
-        if begun.elapsed().as_secs() >= seconds {
-            println!("{index} pieces of seed {seed} agree; the time is over");
-            return Ok(());
-        }
-        let piece = generate::numbered(seed, index);
-        if let Err(what) = differential::compare::piece(&piece) {
-            let small = differential::compare::shrunk(&piece);
-            let why = differential::compare::piece(&small)
-                .err()
-                .unwrap_or_default();
-            return Err(format!(
-                "piece {seed} {index}: {what}\nsmallest:\n{}{why}",
-                small.print()
-            ));
+    let mut report = Report::default();
+    let mut compared = 0;
+    while compared < count && begun.elapsed().as_secs() < seconds {
+        let piece = generate::numbered(seed, compared);
+        let checked = named(seed, compared, || {
+            let answers = reference::answers(&piece);
+            report.add(&piece, &answers);
+            compare::answers(&piece, &answers)
+        })?;
+        checked.map_err(|what| differing(&piece, format!("piece {seed} {compared}: {what}")))?;
+        compared += 1;
+        if compared % 20_000 == 0 {
+            println!("{compared} pieces, {} s", begun.elapsed().as_secs());
         }
     }
-    println!(
-        "{count} pieces of seed {seed} agree, {} s",
-        begun.elapsed().as_secs()
-    );
+    print!("{report}");
+    let seconds = begun.elapsed().as_secs();
+    println!("{compared} of {count} pieces of seed {seed} compared, all agree, {seconds} s");
     Ok(())
+}
+
+/// What is said of a piece on which the two differ: the smallest that was found, and why.
+#[cfg(feature = "library")]
+fn differing(piece: &Piece, what: String) -> String {
+    let small = shrink::smallest(piece, |smaller| compare::piece(smaller).is_err());
+    let why = compare::piece(&small).err().unwrap_or_default();
+    format!("{what}\nsmallest:\n{}{why}", small.print())
 }

@@ -3,14 +3,14 @@
 use crate::answers::{self, Bar, Diagnostic, Item, Measure};
 
 /// Section 4.
-#[derive(Debug, Clone, PartialEq, Eq)]
+#[derive(Debug, Clone, Default, PartialEq, Eq)]
 pub struct Bars {
     pub starts: Vec<u64>,
     pub marks: Vec<u64>,
 }
 
 /// Section 7: four counts a bar, a head and two key masks (low, high) an item.
-#[derive(Debug, Clone, PartialEq, Eq)]
+#[derive(Debug, Clone, Default, PartialEq, Eq)]
 pub struct Staff {
     pub counts: Vec<u32>,
     pub heads: Vec<u32>,
@@ -18,7 +18,7 @@ pub struct Staff {
 }
 
 /// Section 9.
-#[derive(Debug, Clone, PartialEq, Eq)]
+#[derive(Debug, Clone, Default, PartialEq, Eq)]
 pub struct Automation {
     pub counts: [u32; 4],
     pub ticks: Vec<u64>,
@@ -26,7 +26,7 @@ pub struct Automation {
 }
 
 /// Section 10.
-#[derive(Debug, Clone, PartialEq, Eq)]
+#[derive(Debug, Clone, Default, PartialEq, Eq)]
 pub struct Diagnostics {
     pub places: Vec<u64>,
     pub details: Vec<u64>,
@@ -78,6 +78,12 @@ fn key_masks(item: &Item) -> [u64; 2] {
         masks[usize::from(key / 64)] |= 1 << (key % 64);
     }
     masks
+}
+
+/// The keys of two masks, ascending.
+pub fn keys_of(masks: [u64; 2]) -> Vec<u8> {
+    let set = |key: &u8| masks[usize::from(key / 64)] >> (key % 64) & 1 == 1;
+    (0..128).filter(set).collect()
 }
 
 pub fn automation(automation: &answers::Automation) -> Automation {

@@ -1,11 +1,11 @@
-//! Document 01's table of refusals, numbers 1 to 7, read from the paper and not from the Rust.
+//! Document 01's table of refusals, numbers 1 to 7 and the work area of 8, read from the paper and not from the Rust.
 
 use crate::piece::{Piece, sounds};
 
 const MOST_TRACKS: u32 = 65_535;
 const MOST_DIVISION: u32 = 65_535;
 const MOST_EVENTS: u64 = 500_000;
-const MOST_DELTA: u32 = 268_435_455;
+pub const MOST_DELTA: u32 = 268_435_455;
 const MOST_PARTS: usize = 32;
 
 /// 1 to 5: what any call asks of a piece.
@@ -62,6 +62,12 @@ pub fn part_count(piece: &Piece) -> usize {
         .filter(|track| track.iter().any(|event| sounds(event.1)))
         .count()
         .min(MOST_PARTS)
+}
+
+/// 8: the words that a work area of an admitted piece must have.
+pub fn work(piece: &Piece) -> usize {
+    let notes = |track: &Vec<(u32, u32)>| track.iter().filter(|event| sounds(event.1)).count();
+    16 * piece.tracks().iter().map(notes).max().unwrap_or(0) + 4_096
 }
 
 fn bad_word(word: u32) -> bool {

@@ -3,12 +3,12 @@
 use differential::answers::{Bar, Diagnostic, Key};
 use differential::examples::EXAMPLES;
 use differential::piece::Piece;
-use differential::{packed, reference, text};
+use differential::{packed, reference, spelling, text};
 
 #[test]
 fn examples_hold() {
-    for (name, check) in EXAMPLES {
-        assert_eq!(check(), Ok(()), "{name}");
+    for example in EXAMPLES {
+        assert_eq!(example.run(), Ok(()), "{}", example.name);
     }
 }
 
@@ -38,6 +38,7 @@ fn packed_staff_of_the_printed_example() {
     assert_eq!(staff.counts, [2, 0, 0, 0]);
     assert_eq!(staff.heads, [4, 0x113]);
     assert_eq!(staff.keys, [1 << 60, 0, 0, 0]);
+    assert_eq!(packed::keys_of([1 << 60 | 1, 1 << 63]), [0, 60, 127]);
 }
 
 #[test]
@@ -109,6 +110,6 @@ fn values_and_spelling() {
     let sharp = reference::spelling(61).expect("a key");
     assert_eq!((sharp.step, sharp.octave, sharp.alter), ('C', 4, 1));
     for key in 0..128 {
-        assert!(reference::spelling(key).is_ok());
+        assert_eq!(reference::spelling(key), Ok(spelling::of_key(key)));
     }
 }

@@ -18,6 +18,12 @@ fn every_fact_is_reached() {
     for (fact, count) in report.facts() {
         assert!(count > 0, "no piece with: {fact}");
     }
+    for (division, count) in report.divisions() {
+        assert!(count > 0, "no piece with division {division}");
+    }
+    for (code, dots, count) in report.values() {
+        assert!(count > 0, "no item of code {code} and {dots} dots");
+    }
     for number in [1, 2, 3, 4, 5, 6, 7] {
         assert!(report.refused(number) > 0, "no piece refused with {number}");
     }

@@ -1,13 +1,13 @@
 //! Asks the reference about a piece and gives its answers as plain data.
 
-use super::{Error, MAX_MEASURES, MAX_MIDI_EVENTS, MAX_PARTS, RawNote, Voices, transcribe};
+use super::{Error, MAX_MIDI_EVENTS, Voices, steps};
 use crate::answers::{
     Answers, Automation, Bar, Diagnostic, Entry, Head, Import, Item, Key, Measure, Part, Spelled,
 };
 use crate::piece::{Piece, word};
 use crate::refusals;
 use acorde_core::{Duration, KeySignature, Note, Pitch, Score};
-use midly::{Smf, Timing};
+use midly::Smf;
 
 const DURATIONS: [Duration; 10] = [
     Duration::Longa,
@@ -69,8 +69,8 @@ pub fn voices(piece: &Piece) -> Result<Vec<Voices>, u8> {
     }
     let bytes = admitted(piece)?;
     let smf = Smf::parse(&bytes).expect("a record is read");
-    let ppq = ticks_per_quarter(&smf);
-    let parts = raw_parts(&smf);
+    let ppq = steps::ticks_per_quarter(&smf);
+    let parts = steps::raw_parts(&smf);
     Ok(parts
         .iter()
         .map(|raw| super::voices::voices(raw, ppq))
@@ -113,23 +113,6 @@ fn admitted(piece: &Piece) -> Result<Vec<u8>, u8> {
     }
 }
 
-fn ticks_per_quarter(smf: &Smf) -> u64 {
-    match smf.header.timing {
-        Timing::Metrical(ticks) => u64::from(ticks.as_int()),
-        Timing::Timecode(..) => 480,
-    }
-}
-
-/// The raw notes of each part, as `parse_midi` gathers them.
-fn raw_parts(smf: &Smf) -> Vec<Vec<RawNote>> {
-    smf.tracks
-        .iter()
-        .map(|track| super::collect_raw_notes(track))
-        .filter(|raw| !raw.is_empty())
-        .take(MAX_PARTS)
-        .collect()
-}
-
 fn plain_import(score: Score, bytes: &[u8]) -> Import {
     let settings = &score.settings;
     let head = Head {
@@ -147,57 +130,12 @@ fn plain_import(score: Score, bytes: &[u8]) -> Import {
     }
 }
 
-/// How long the reference takes for the bars and their marks alone, its parsed file given.
-pub fn time_bars(piece: &Piece) -> std::time::Duration {
-    let bytes = midly::record(&piece.sizes, &piece.deltas, &piece.words);
-    let smf = Smf::parse(&bytes).expect("a record is read");
-    let begun = std::time::Instant::now();
-    let (tempos, meters) = super::collect_meta_changes(&smf.tracks[0]);
-    let keys = super::collect_key_changes(&smf.tracks[0]);
-    let first = meters.iter().find(|change| change.0 == 0);
-    let initial = first.map_or(
-        super::TimeSignature {
-            numerator: 4,
-            denominator: 4,
-        },
-        |change| change.1.clone(),
-    );
-    let parts = raw_parts(&smf);
-    let end = parts
-        .iter()
-        .flatten()
-        .map(|note| note.end)
-        .max()
-        .expect("a part has notes");
-    let bars = transcribe::midi_bars(
-        ticks_per_quarter(&smf),
-        &initial,
-        &meters,
-        end,
-        MAX_MEASURES,
-    );
-    let mut measures: Vec<_> = bars
-        .iter()
-        .map(|_| acorde_core::Measure::empty(4, 4))
-        .collect();
-    transcribe::apply_bar_changes(&mut measures, &bars, &tempos, &keys);
-    std::hint::black_box(&measures);
-    begun.elapsed()
-}
-
 /// Starts and lengths by `midi_bars`, marks from the measures; every part has the same.
 fn plain_bars(score: &Score, bytes: &[u8]) -> Vec<Bar> {
     let smf = Smf::parse(bytes).expect("a record is read");
     let (_, meters) = super::collect_meta_changes(&smf.tracks[0]);
-    let parts = raw_parts(&smf);
-    let ends = parts.iter().flatten().map(|note| note.end);
-    let bars = transcribe::midi_bars(
-        ticks_per_quarter(&smf),
-        &score.settings.time_signature,
-        &meters,
-        ends.max().expect("a part has notes"),
-        MAX_MEASURES,
-    );
+    let parts = steps::raw_parts(&smf);
+    let bars = steps::bars(&smf, &score.settings.time_signature, &meters, &parts);
     let first = &score.parts[0].staves[0].measures;
     for part in &score.parts {
         let measures = &part.staves[0].measures;

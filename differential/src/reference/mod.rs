@@ -3,14 +3,16 @@
 
 mod ask;
 mod stand_in;
+mod steps;
+pub mod times;
 mod voices;
 
 mod serialize {
     include!(concat!(env!("OUT_DIR"), "/serialize.rs"));
 }
 
-pub use ask::{answers, beats, diagnostics, import, spelling, time_bars, voices};
-pub use voices::{Chord, Voices};
+pub use ask::{answers, beats, diagnostics, import, spelling, voices};
+pub use voices::{Chord, Snapped, Voices};
 
 // The names that the reference's own file imports.
 use acorde_core::{

@@ -10,8 +10,21 @@ include!(concat!(env!("OUT_DIR"), "/voices.rs"));
 pub struct Voices {
     pub grid: u64,
     pub chords: [Vec<Chord>; 4],
-    /// Snapped start, snapped end and channel of each raw note.
-    pub notes: Vec<(u64, u64, u8)>,
+    /// The raw notes in their order.
+    pub notes: Vec<Snapped>,
+    /// The largest raw end.
+    pub end: u64,
+}
+
+#[derive(Debug, Clone, PartialEq, Eq)]
+pub struct Snapped {
+    pub raw_start: u64,
+    pub start: u64,
+    pub end: u64,
+    /// The snapped end was less than a grid step behind the start.
+    pub raised: bool,
+    pub key: u8,
+    pub channel: u8,
 }
 
 #[derive(Debug, Clone, PartialEq, Eq)]
@@ -30,14 +43,21 @@ pub(super) fn voices(raw: &[RawNote], ppq: u64) -> Voices {
         keys: chord.keys,
         unpitched: chord.unpitched,
     };
-    let notes = raw.iter().map(|note| {
-        let start = snap(note.start, grid);
-        let end = snap(note.end, grid).max(start + grid);
-        (start, end, note.channel)
-    });
+    let snapped = |note: &RawNote| {
+        let (start, end) = (snap(note.start, grid), snap(note.end, grid));
+        Snapped {
+            raw_start: note.start,
+            start,
+            end: end.max(start + grid),
+            raised: end < start + grid,
+            key: note.midi,
+            channel: note.channel,
+        }
+    };
     Voices {
         grid,
-        notes: notes.collect(),
+        notes: raw.iter().map(snapped).collect(),
         chords: assign_voices(raw, grid).map(|voice| voice.into_iter().map(plain).collect()),
+        end: raw.iter().map(|note| note.end).max().unwrap_or(0),
     }
 }

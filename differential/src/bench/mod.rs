@@ -1,0 +1,150 @@
+//! Times of the library beside the reference's on the same pieces.
+
+mod import;
+mod pieces;
+
+use crate::reference::times;
+use crate::{compare, piece::Piece};
+use import::Import;
+use pieces::Kind;
+use std::time::{Duration, Instant};
+
+const KINDS: [Kind; 4] = [Kind::Notes, Kind::Overlaps, Kind::Controllers, Kind::Tempos];
+const EVENTS: [usize; 2] = [100_000, 500_000];
+const PARTS: [usize; 2] = [1, 16];
+
+/// The least of some runs, in milliseconds.
+fn shortest(runs: usize, mut run: impl FnMut() -> Duration) -> f64 {
+    let times = (0..runs).map(|_| run().as_secs_f64() * 1000.0);
+    times.fold(f64::INFINITY, f64::min)
+}
+
+fn timed(run: impl FnOnce()) -> Duration {
+    let begun = Instant::now();
+    run();
+    begun.elapsed()
+}
+
+/// The reference looks at every bar for every tempo change of every part: one run of those is enough.
+fn runs(kind: Kind) -> usize {
+    match kind {
+        Kind::Tempos => 1,
+        _ => 5,
+    }
+}
+
+const ABOUT: &str = "\
+Pieces of 10,000 bars of 4/4 at 480 ticks per quarter, events over all of it, one held note in each part. Milliseconds,
+the shortest of five runs; the reference's bars and imports of tempos are run once. Freeing what it answers is not timed.
+Library: whole calls from the piece's arrays, admission included; arrays lent once, before the time runs.
+Reference: the file as the stand-in parses it is given, but for `import`.
+ns/event is the library's; ratio is the first time over the second, library over reference.";
+
+pub fn all() {
+    println!("{ABOUT}\n");
+    bars();
+    staffs();
+    imports();
+}
+
+/// Prints a row for each piece: the first time is the library's, the second the reference's.
+fn table<const N: usize>(
+    title: &str,
+    columns: [&str; N],
+    parts: &[usize],
+    times: impl Fn(Kind, &Piece) -> [f64; N],
+) {
+    println!("{title}");
+    print!("{:18} {:>5} {:>8}", "piece", "parts", "events");
+    for column in columns {
+        print!(" {column:>18}");
+    }
+    println!(" {:>8} {:>8}", "ns/event", "ratio");
+    for kind in KINDS {
+        for &parts in parts {
+            for events in EVENTS {
+                let times = times(kind, &kind.piece(events, parts));
+                print!("{:18} {parts:>5} {events:>8}", kind.name());
+                for time in times {
+                    print!(" {time:>18.2}");
+                }
+                let (each, ratio) = (times[0] * 1e6 / events as f64, times[0] / times[1]);
+                println!(" {each:>8.1} {ratio:>8.3}");
+            }
+        }
+    }
+    println!();
+}
+
+fn bars() {
+    table(
+        "bars and marks. Reference: changes and raw notes collected, `midi_bars`, `apply_bar_changes`",
+        ["library", "reference"],
+        &PARTS[..1],
+        |kind, piece| {
+            let mut import = Import::of(piece);
+            [
+                shortest(5, || timed(|| import.bars())),
+                shortest(runs(kind), || times::bars(piece)),
+            ]
+        },
+    );
+}
+
+fn staffs() {
+    table(
+        "the staff of part 0. Reference: changes and raw notes of all parts collected, `midi_bars`, `transcribe_track`; \
+         last, `transcribe_track` alone",
+        [
+            "library engrave",
+            "reference",
+            "library size",
+            "transcribe alone",
+        ],
+        &PARTS,
+        |_, piece| {
+            let mut import = Import::of(piece);
+            let mut alone = f64::INFINITY;
+            let ours = shortest(5, || timed(|| import.engrave(0)));
+            let size = shortest(5, || timed(|| import.staff_size(0)));
+            let theirs = shortest(5, || {
+                let (whole, transcribe) = times::staff(piece, 0);
+                alone = alone.min(transcribe.as_secs_f64() * 1000.0);
+                whole
+            });
+            [ours, theirs, size, alone]
+        },
+    );
+}
+
+fn imports() {
+    table(
+        "import: heads, bars, every part's size, staff and automation, diagnostics. Reference: `parse_midi` and \
+         `loss_diagnostics`, each of which parses; last, parsing twice alone",
+        ["library", "reference", "parsing twice"],
+        &PARTS,
+        |kind, piece| {
+            let mut import = Import::of(piece);
+            [
+                shortest(5, || timed(|| import.all())),
+                shortest(runs(kind), || times::import(piece)),
+                shortest(5, || times::parse(piece) * 2),
+            ]
+        },
+    );
+}
+
+/// The two compared on the pieces of the benchmark.
+pub fn compared() -> Result<(), String> {
+    for kind in KINDS {
+        for parts in PARTS {
+            for events in EVENTS {
+                let name = format!("{}, {parts} parts, {events} events", kind.name());
+                compare::piece(&kind.piece(events, parts))
+                    .map_err(|what| format!("{name}: {what}"))?;
+                println!("agree: {name}");
+            }
+        }
+    }
+    Ok(())
+}

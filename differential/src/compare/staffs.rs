@@ -1,0 +1,106 @@
+//! Staff size and staff of one part.
+
+use super::{Case, Wanted, number, rooms};
+use crate::answers::{Measure, Spelled};
+use crate::checked::{Checked, same};
+use crate::library::{self, Lent, StaffSize};
+use crate::{packed, spelling};
+
+/// A staff, and how the reference spells each item's keys.
+struct Staff {
+    arrays: packed::Staff,
+    spelled: Vec<Vec<Spelled>>,
+}
+
+impl Staff {
+    fn of(measures: &[Measure]) -> Self {
+        let items = measures.iter().flatten().flatten();
+        Self {
+            arrays: packed::staff(measures),
+            spelled: items.map(|item| item.spelled.clone()).collect(),
+        }
+    }
+}
+
+pub fn answered(case: &Case, part: u32, measures: &[Measure]) -> Checked {
+    let wanted = Staff::of(measures);
+    let packed::Staff {
+        counts,
+        heads,
+        keys,
+    } = &wanted.arrays;
+    rooms([case.work], &wanted, |[work], wanted| {
+        size(case, part, work, wanted)
+    })?;
+    let needed = [counts.len(), heads.len(), keys.len(), case.work];
+    rooms(needed, &wanted, |rooms, wanted| {
+        engrave(case, part, rooms, wanted)
+    })
+}
+
+/// Also with too little space: every other number comes before 8.
+pub fn refused(case: &Case, part: u32, number: u32) -> Checked {
+    for work in [0, 9, case.work + 1] {
+        size(case, part, work, Err(number))?;
+        engrave(case, part, [5, 2, 3, work], Err(number))?;
+    }
+    engrave(case, part, [0, 0, 0, case.work], Err(number))
+}
+
+fn size_of(wanted: Wanted<Staff>) -> StaffSize {
+    StaffSize {
+        number: number(wanted),
+        bars: wanted.map_or(0, |staff| staff.arrays.counts.len() / 4),
+        items: wanted.map_or(0, |staff| staff.arrays.heads.len()),
+    }
+}
+
+fn size(case: &Case, part: u32, work: usize, wanted: Wanted<Staff>) -> Checked {
+    let mut work = Lent::new(work);
+    let answer = library::staff_size(&case.given, part, &mut work);
+    same("staff size", answer, size_of(wanted))?;
+    work.cleared("work after staff size")
+}
+
+fn engrave(case: &Case, part: u32, rooms: [usize; 4], wanted: Wanted<Staff>) -> Checked {
+    let (mut counts, mut heads) = (Lent::new(rooms[0]), Lent::new(rooms[1]));
+    let (mut keys, mut work) = (Lent::new(rooms[2]), Lent::new(rooms[3]));
+    let answer = library::engrave(
+        &case.given,
+        part,
+        &mut counts,
+        &mut heads,
+        &mut keys,
+        &mut work,
+    );
+    same("staff", answer, size_of(wanted))?;
+    work.cleared("work after engraving")?;
+    match wanted {
+        Ok(Staff { arrays, spelled }) => {
+            counts.holds("item counts", &arrays.counts)?;
+            heads.holds("item heads", &arrays.heads)?;
+            keys.holds("item keys", &arrays.keys)?;
+            spellings(keys.elements(), spelled)
+        }
+        Err(_) => {
+            counts.untouched("item counts")?;
+            heads.untouched("item heads")?;
+            keys.untouched("item keys")
+        }
+    }
+}
+
+/// The reference's pitches are the keys of the library's bit sets, ascending and spelled.
+fn spellings(keys: &[u64], wanted: &[Vec<Spelled>]) -> Checked {
+    for (index, (masks, wanted)) in keys.chunks(2).zip(wanted).enumerate() {
+        let keys = packed::keys_of([masks[0], masks[1]]);
+        let spelled = keys.iter().map(|key| spelling::of_key(*key));
+        if !spelled.clone().eq(wanted.iter().copied()) {
+            let spelled: Vec<_> = spelled.collect();
+            return Err(format!(
+                "pitches of item {index}: {spelled:?}, wanted {wanted:?}"
+            ));
+        }
+    }
+    Ok(())
+}

@@ -1,0 +1,71 @@
+//! How long the reference takes. What it makes is freed after the time is taken.
+
+use super::transcribe::{MidiBar, apply_bar_changes, transcribe_track};
+use super::{RawNote, collect_key_changes, collect_meta_changes, midi_to_pitch, steps};
+use crate::piece::Piece;
+use acorde_core::{Measure, TimeSignature};
+use midly::Smf;
+use std::hint::black_box;
+use std::time::{Duration, Instant};
+
+fn record(piece: &Piece) -> Vec<u8> {
+    midly::record(&piece.sizes, &piece.deltas, &piece.words)
+}
+
+fn timed<T>(run: impl FnOnce() -> T) -> (Duration, T) {
+    let begun = Instant::now();
+    let made = black_box(run());
+    (begun.elapsed(), made)
+}
+
+/// What the file parser takes for a piece.
+pub fn parse(piece: &Piece) -> Duration {
+    let bytes = record(piece);
+    timed(|| Smf::parse(&bytes).expect("a record is read")).0
+}
+
+/// The import and the loss report.
+pub fn import(piece: &Piece) -> Duration {
+    let bytes = record(piece);
+    timed(|| (super::parse_midi(&bytes), super::loss_diagnostics(&bytes))).0
+}
+
+/// The bars and their marks alone, the parsed file given.
+pub fn bars(piece: &Piece) -> Duration {
+    let bytes = record(piece);
+    let smf = Smf::parse(&bytes).expect("a record is read");
+    let made = timed(|| {
+        let (tempos, bars, _) = timeline(&smf);
+        let keys = collect_key_changes(&smf.tracks[0]);
+        let mut measures: Vec<_> = bars.iter().map(|_| Measure::empty(4, 4)).collect();
+        apply_bar_changes(&mut measures, &bars, &tempos, &keys);
+        measures
+    });
+    made.0
+}
+
+/// One part's staff, the parsed file given; and `transcribe_track` alone.
+pub fn staff(piece: &Piece, part: usize) -> (Duration, Duration) {
+    let bytes = record(piece);
+    let smf = Smf::parse(&bytes).expect("a record is read");
+    let quarter = steps::ticks_per_quarter(&smf);
+    let (before, (_, bars, parts)) = timed(|| timeline(&smf));
+    let made = timed(|| transcribe_track(&parts[part], quarter, &bars, midi_to_pitch));
+    (before + made.0, made.0)
+}
+
+type Timeline = (Vec<(u64, u16)>, Vec<MidiBar>, Vec<Vec<RawNote>>);
+
+/// Tempos, bars and the parts' raw notes.
+fn timeline(smf: &Smf) -> Timeline {
+    let (tempos, meters) = collect_meta_changes(&smf.tracks[0]);
+    let parts = steps::raw_parts(smf);
+    let first = meters.iter().find(|change| change.0 == 0);
+    let initial = first.map_or((4, 4), |(_, time)| (time.numerator, time.denominator));
+    let initial = TimeSignature {
+        numerator: initial.0,
+        denominator: initial.1,
+    };
+    let bars = steps::bars(smf, &initial, &meters, &parts);
+    (tempos, bars, parts)
+}
