@@ -16,7 +16,7 @@ use Rattle.laws.specs.Ladder.{split}
 use Rattle.laws.specs.Sort.{count}
 use Rattle.laws.proofs.Order.{by-bool, by-lt}
 use Rattle.laws.proofs.Sort.{count-none, count-cons}
-use Rattle.laws.proofs.Splits.{split-literal, split-fits, split-over}
+use Rattle.laws.proofs.Splits.{split-zero, split-literal, split-fits, split-over}
 use Rattle.laws.proofs.Values.{values-long}
 use Rattle.values.specs.Table.{tableOf, entry}
 
@@ -63,10 +63,6 @@ module _ (table : List ℕ) (i t : ℕ) where
     pub coming-count : length (coming table i t) ≡ t / getD table i 0 + length (coming table (i + 1) (t % getD table i 0))
     unfolding coming split
     coming-count = rw (count-cons i 18 inside, length-append, length-replicate)
-
-    pub coming-skip : getD table i 0 ≡ 0 → coming table i t ≡ coming table (i + 1) t
-    unfolding coming
-    coming-skip e = rw (count-cons i 18 inside) (split-none _ _ t e)
 
 -- The table of p lists the values of p, with 0 for those that are no whole number.
 module _ (p : ℕ) where
@@ -140,16 +136,30 @@ pub division-few : (t l : ℕ) → 0 < l → t / l + t % l ≤ t
 division-few t l h = omega (arith, div-add-mod' t l, le-mul-of-pos-right (t / l) h)
 
 module _ {table : List ℕ} {t n left i : ℕ} (inside : i < 18) (p : Counted table t n left i) where
-  pub counted-more : 0 < getD table i 0 → Counted table t (n + left / getD table i 0) (left % getD table i 0) (i + 1)
-  counted-more h =
-      record {
-        within = omega arith;
-        few = omega (arith, division-few left (getD table i 0) h);
-        is = omega (arith, coming-count table i left inside);
-      }
+  -- entry i fits
+  module _ (yes : (ltb 0 (getD table i 0) && leb (getD table i 0) left) ≡ true) where
+    pub counted-long : 0 < getD table i 0
+    counted-long = coming-fits table i left inside yes .0
 
-  pub counted-skip : getD table i 0 ≡ 0 → Counted table t n left (i + 1)
-  counted-skip e = record { within = omega arith; few = p .few; is = rw (← coming-skip table i left inside e) (p .is) }
+    pub counted-more : Counted table t (n + left / getD table i 0) (left % getD table i 0) (i + 1)
+    counted-more =
+        record {
+          within = omega arith;
+          few = omega (arith, division-few left (getD table i 0) counted-long);
+          is = omega (arith, coming-count table i left inside);
+        }
+
+  pub counted-over : (ltb 0 (getD table i 0) && leb (getD table i 0) left) ≡ false → Counted table t n left (i + 1)
+  counted-over e = record { within = omega arith; few = p .few; is = rw (← coming-over table i left inside e) (p .is) }
+
+-- no ticks are left
+pub counted-all : {table : List ℕ} {t n left i : ℕ} (p : ℕ) → left ≡ 0 → Counted table t n left i → 0 < p → table ≡ tableOf p
+    → n ≡ length (splitSpan p t .pieces)
+unfolding coming
+counted-all {table} {t} {n} {left} {i} p z c h e =
+    let none : length (coming table i left) ≡ 0 = rw z (ap length (split-zero (map (entry table) (count i (18 - i))))) in
+    let all : length (coming table 0 t) ≡ length (splitSpan p t .pieces) = rw e (ap length (table-split p t h)) in
+    omega (arith, c .is)
 
 pub counted-end : {table : List ℕ} {t n left i : ℕ} (p : ℕ) → 18 ≤ i → Counted table t n left i → 0 < p → table ≡ tableOf p
     → n ≡ length (splitSpan p t .pieces)

@@ -43,7 +43,7 @@ pub fn note_values(p: u64) -> [u64; 18]
     values
 }
 
-// How many pieces a span takes: a division an entry, however long it is.
+// How many pieces a span takes: a division for each entry that fits, however long it is.
 pub fn count_pieces(values: &[u64; 18], ticks: u64) -> u64
     ensures { λ r. ⌜ ((p : ℕ) → 0 < p → now (values .entry) ≡ tableOf p → r ≡ length (splitSpan p ticks .pieces)) ⌝ }
 {
@@ -51,8 +51,11 @@ pub fn count_pieces(values: &[u64; 18], ticks: u64) -> u64
     let mut left = ticks;
     let mut i: usize = 0;
     while i < 18 {
+        if left == 0 {
+            return count;
+        }
         let length = values[i];
-        if 0 < length {
+        if fits(length, left) {
             count += left / length;
             left %= length;
         }

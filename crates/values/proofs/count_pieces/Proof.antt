@@ -1,9 +1,11 @@
 -- `count_pieces` counts by division. The invariant: the pieces counted, and those that the entries from i on give for the ticks left, are all.
-use Prim.Native.Nat.{_-_}
+use Prim.Native.Nat.{_-_, _<_}
 use mathlib.Core.Logic.{⊎-elim}
+use mathlib.Core.Path.{sym, _∙_}
 use native.Mathlib.Omega.{arith}
+use borrow.Author.Needs.{needs}
 use lib.ListN.{getD}
-use Rattle.values.proofs.Entries.{Counted, counted-more, counted-skip, division-few, counted-end}
+use Rattle.values.proofs.Entries.{Counted, counted-long, counted-more, counted-over, counted-all, division-few, counted-end}
 use Rattle.values.proofs.count_pieces.Statement.{statement}
 use Rattle.values.proofs.count_pieces.Tie as tie
 
@@ -16,16 +18,24 @@ abbrev μ-loop : tie.MeasureT-loop
 loop-holds : tie.Need-loop-holds Inv-loop μ-loop
 loop-holds c = record { within = omega arith; few = omega arith; is = omega arith }
 
+returns : tie.Need-returns Inv-loop μ-loop
+returns c p h e = counted-all p (c .if1 .taken) (c .before .before .loop .inv) h e
+
+-- entry i fits, and so has ticks
+long : (c : tie.Then2 Inv-loop μ-loop) → 0 < getD (c .before .before .before .before .before .before .args .values .now) (c .before .before .before .before .before .loop .i) 0
+long c = counted-long (omega arith) (c .before .before .before .before .before .loop .inv) (sym (c .before .fits2 .ensures) ∙ c .if2 .taken)
+
 loop-again : tie.Need-loop-again Inv-loop μ-loop
 loop-again c =
-    let here = c .before .before .before .loop in
+    let here = c .before .before .before .before .before .loop in
+    let test = c .before .fits2 .ensures in
     ⊎-elim
-    (λ w. rw (w .1, w .2) (counted-more (omega arith) (here .inv) (w .0 .taken)))
-    (λ w. rw (w .1, w .2) (counted-skip (omega arith) (here .inv) (omega arith)))
-    (c .if1 .came)
+    (λ w. rw (w .1, w .2) (counted-more (omega arith) (here .inv) (sym test ∙ w .0 .taken)))
+    (λ w. rw (w .1, w .2) (counted-over (omega arith) (here .inv) (sym test ∙ w .0 .left)))
+    (c .if2 .came)
 
-returns : tie.Need-returns Inv-loop μ-loop
-returns c p h e = counted-end p (omega arith) (c .before .loop .inv) h e
+returns-2 : tie.Need-returns-2 Inv-loop μ-loop
+returns-2 c p h e = counted-end p (omega arith) (c .before .loop .inv) h e
 
 pub count-pieces-spec : {M : Type 1} → statement M
 count-pieces-spec =
@@ -34,12 +44,14 @@ count-pieces-spec =
     Inv-loop
     μ-loop
     loop-holds
+    returns
     (λ c. omega arith)
     (λ c. omega arith)
-    (λ c. omega arith)
-    (λ c. omega (arith, division-few (c .before .before .before .loop .left) (getD (c .before .before .before .before .args .values .now) (c .before .before .before .loop .i) 0) (c .if1 .taken)))
-    (λ c. omega arith)
+    (λ c κs. search needs)
+    (λ c. long c)
+    (λ c. omega (arith, division-few (c .before .before .before .before .before .loop .left) (getD (c .before .before .before .before .before .before .args .values .now) (c .before .before .before .before .before .loop .i) 0) (long c)))
+    (λ c. long c)
     (λ c. omega arith)
     (λ c. omega arith)
     loop-again
-    returns)
+    returns-2)
