@@ -1,33 +1,33 @@
 -- The part's notes as they stand in the work area, and the answer by its tests.
 use Prim.Native.Nat.{ℕ, zero, suc, _+_, _*_, _/_, _%_, _^_, _≤_, _<_, max}
-use mathlib.Core.Bool.{Bool, true, false, cond, not, _&&_}
+use mathlib.Core.Bool.{Bool, true, false, cond, _&&_}
 use mathlib.Core.List.{List, [], _∷_, map}
 use mathlib.Core.Logic.{inl, inr}
 use mathlib.Core.Path.{_≡_, refl, sym, ap, subst, _∙_}
-use native.Mathlib.Nat.{mul-le-mul-right, div-add-mod', le-div-iff-mul-le, div-mul-le-self}
+use native.Mathlib.Nat.{mul-le-mul-right, le-div-iff-mul-le, div-mul-le-self}
 use native.Mathlib.Omega.{arith}
 use borrow.Author.Tests.{eq-eqb, ne-eqb, lt-ltb, le-ltb}
-use lib.Dec.{eqb, ltb}
-use lib.ListN.{length, getD, take, length-map}
+use lib.Dec.{ltb}
+use lib.ListN.{length, getD, length-map}
 use lib.Seq.{getD-take}
-use Rattle.rules.specs.Lists.{All, every, sum}
+use Rattle.rules.specs.Lists.{All, sum}
 use Rattle.rules.specs.Piece.{Event}
 use Rattle.rules.specs.RawNotes.{RawNote, rawNotes, rawNotesOf, byStart}
-use Rattle.rules.specs.Bars.{Bar, lastBarEnd}
+use Rattle.rules.specs.Bars.{Bar}
 use Rattle.rules.specs.Grid.{snap, sixteenth, offCount, grid}
 use Rattle.rules.specs.Values.{smallest}
-use Rattle.rules.specs.Items.{StaffArrays, readStaff}
-use Rattle.rules.specs.ProofReaderTests.{right?, shaped?, verdict, even?}
-use Rattle.rules.specs.Refusals.{Result, refused, given, unless}
+use Rattle.rules.specs.Items.{readStaff}
+use Rattle.rules.specs.ProofReaderTests.{right?, shaped?, even?}
+use Rattle.rules.specs.Refusals.{refused, given, unless}
 use Rattle.laws.specs.NoteWords.{InRange, startWord, endWord}
 use Rattle.laws.specs.Sort.{count, Rises}
 use Rattle.laws.proofs.Lists.{All-get}
-use Rattle.laws.proofs.Order.{by-eq, by-lt}
+use Rattle.laws.proofs.Order.{by-eq}
 use Rattle.laws.proofs.Parts.{part-get}
 use Rattle.laws.proofs.Reflection.{says-flag, says-eq, says-and4}
 use Rattle.laws.proofs.Sort.{rises-sort, rises-get, length-count}
 use Rattle.raw_notes.specs.Columns.{Noted}
-use Rattle.proofread_notes.specs.Columns.{rawAt, snapAt, Readable}
+use Rattle.proofread_notes.specs.Columns.{rawAt, Readable}
 use Rattle.proofread_notes.proofs.Rests.{rest-is}
 use Rattle.proofread_voices.specs.Voices.{Fits}
 use Rattle.proofread.specs.Staffs.{rawsAt, headsMean?, Shapes, Measures, rightAnswer}

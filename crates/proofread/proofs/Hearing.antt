@@ -1,16 +1,16 @@
 -- What is heard of a voice item by item is section 8's playback, and its tests are section 8's.
-use Prim.Native.Nat.{ℕ, zero, suc, _+_, _≤_, _<_}
-use mathlib.Core.Bool.{Bool, true, false, cond, not, _&&_, _||_}
-use mathlib.Core.List.{List, [], _∷_, _++_, map, reverse, reverse-cons, foldl-append}
+use Prim.Native.Nat.{ℕ, _+_}
+use mathlib.Core.Bool.{Bool, true, false, cond, _&&_, _||_}
+use mathlib.Core.List.{List, [], _∷_, _++_, reverse, reverse-cons, foldl-append}
 use mathlib.Core.Option.{Option, none, some}
-use mathlib.Core.Path.{_≡_, refl, sym, ap, subst, _∙_}
+use mathlib.Core.Path.{_≡_, refl, sym, ap, _∙_}
 use lib.Dec.{eqb}
-use Rattle.rules.specs.Lists.{every, any, isEmpty}
+use Rattle.rules.specs.Lists.{every}
 use Rattle.rules.specs.RawNotes.{RawNote}
 use Rattle.rules.specs.Bars.{Bar}
 use Rattle.rules.specs.Items.{Item, Staff}
 use Rattle.rules.specs.ProofReader.{Timed, timedFrom, voiceItems, voiceTimed, Played, prolonged, hear, heardAfter, playback, Tie, tieAfter}
-use Rattle.rules.specs.ProofReaderTests.{staffValue?, clean?, meets?, freeAt?, tied?, keysMeant?, endsWithNote?, endsMeant?, fill?, emptyOrFill?}
+use Rattle.rules.specs.ProofReaderTests.{staffValue?, clean?, meets?, freeAt?, tied?, keysMeant?, endsWithNote?, endsMeant?}
 use Rattle.proofread_notes.specs.Chords.{chordOk?}
 use Rattle.proofread_items.specs.Playing.{Heard, fits?, lastOk?, closedWith, prolongedTo, soundOk?, chordAfter, closedAfter, hearOne, run}
 use Rattle.proofread_voices.specs.Voices.{filled?, withOk, voiceRun, silent, voiceOk?}

@@ -1,16 +1,14 @@
 -- Notes that are off the grid are counted one by one, and bars are measured one by one.
-use Prim.Native.Nat.{ℕ, suc, _+_, _-_, _*_, _/_, _%_, _^_, _≤_, _<_}
+use Prim.Native.Nat.{ℕ, _+_, _-_, _/_, _%_, _^_, _≤_, _<_}
 use mathlib.Core.Bool.{Bool, true, false, _&&_}
 use mathlib.Core.List.{List, [], _∷_, map}
 use mathlib.Core.Logic.{inl, inr}
-use mathlib.Core.Path.{_≡_, refl, sym, ap, subst, _∙_}
-use native.Mathlib.Nat.{sub-zero}
+use mathlib.Core.Path.{_≡_, sym, ap, _∙_}
 use native.Mathlib.Omega.{arith}
 use borrow.Author.Tests.{lt-ltb, le-ltb}
 use lib.Dec.{eqb, ltb}
 use lib.ListN.{length}
 use Rattle.rules.specs.Lists.{every, keep, lastOr, flag}
-use Rattle.rules.specs.RawNotes.{RawNote}
 use Rattle.rules.specs.Bars.{Bar, barEnd, barsIn, lastBarEnd, mostBars}
 use Rattle.rules.specs.Grid.{sixteenth, isOffGrid, offCount}
 use Rattle.laws.proofs.Order.{by-bool}

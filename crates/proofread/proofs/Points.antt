@@ -1,28 +1,25 @@
 -- Section 8's points voice by voice: a staff is right exactly if each of its four voices is, and every note is found.
-use Prim.Native.Nat.{ℕ, zero, suc, _+_, _*_, _≤_, _<_}
-use mathlib.Core.Bool.{Bool, true, false, not, _&&_, _||_}
-use mathlib.Core.List.{List, [], _∷_, _++_, map, reverse, reverse-cons}
+use Prim.Native.Nat.{ℕ, _+_}
+use mathlib.Core.Bool.{Bool, true, false, _&&_}
+use mathlib.Core.List.{List, [], _∷_, _++_, map}
 use mathlib.Core.Option.{none}
 use mathlib.Core.Path.{_≡_, refl, sym, ap, _∙_}
 use native.Mathlib.Omega.{arith}
-use lib.Dec.{eqb, ltb}
-use lib.ListN.{length, drop, length-drop, take}
-use Rattle.rules.specs.Lists.{All, every, any, sum}
+use lib.ListN.{length}
+use Rattle.rules.specs.Lists.{All, every}
 use Rattle.rules.specs.RawNotes.{RawNote}
 use Rattle.rules.specs.Bars.{Bar, lastBarEnd}
 use Rattle.rules.specs.Grid.{snapped}
-use Rattle.rules.specs.Items.{Item, Staff, StaffArrays, cutBy, byFours, readItems, readStaff}
-use Rattle.rules.specs.ProofReader.{Timed, timedFrom, voiceItems, voiceTimed, voiceNumbers, Played, heardAfter, playback, played, itemTicks}
-use Rattle.rules.specs.ProofReaderTests.{staffValue?, values?, fill?, emptyOrFill?, full?, clean?, allClean?, tied?, ties?, hasKey?, noteFound?, keysMeant?, endsMeant?, right?}
+use Rattle.rules.specs.Items.{Item, Staff}
+use Rattle.rules.specs.ProofReader.{Timed, timedFrom, voiceItems, voiceTimed, Played, playback, played, itemTicks}
+use Rattle.rules.specs.ProofReaderTests.{staffValue?, fill?, emptyOrFill?, full?, clean?, tied?, ties?, noteFound?, keysMeant?, endsMeant?, right?}
 use Rattle.laws.specs.Says.{Says}
 use Rattle.laws.proofs.Lists.{by-four}
-use Rattle.laws.proofs.Reflection.{says-flag, says-true, says-and, says-and4, says-as, says-or}
-use Rattle.proofread_notes.specs.Columns.{hears?}
+use Rattle.laws.proofs.Reflection.{says-flag, says-true, says-and, says-and4, says-as}
 use Rattle.proofread_notes.proofs.Meant.{says-same}
-use Rattle.proofread_voices.specs.Voices.{filled?, voiceRun, silent, voiceOk?}
-use Rattle.proofread_voices.proofs.BarItems.{four-cut}
+use Rattle.proofread_voices.specs.Voices.{voiceRun, silent, voiceOk?}
 use Rattle.proofread.proofs.Hearing.{goodItem?, fullIn?, voice-points}
-use Rattle.proofread.proofs.Shuffles.{and-assoc, or-assoc, or-comm, or-none}
+use Rattle.proofread.proofs.Shuffles.{and-assoc}
 
 -- ---- staffs of four voices a bar
 

@@ -13,12 +13,12 @@ use Rattle.rules.specs.RawNotes.{RawNote}
 use Rattle.rules.specs.Bars.{Bar, lastBarEnd}
 use Rattle.rules.specs.Grid.{snapped}
 use Rattle.rules.specs.Items.{Item, Staff, cutBy, byFours, readItems, readStaff}
-use Rattle.rules.specs.ProofReader.{voiceTimed, Played, heardAfter, playback, played}
+use Rattle.rules.specs.ProofReader.{voiceTimed, Played, heardAfter, played}
 use Rattle.rules.specs.ProofReaderTests.{noteFound?, right?}
 use Rattle.laws.specs.Sort.{count}
 use Rattle.proofread_notes.specs.Columns.{rawAt, snapAt, notesAt, Same, Marks, hears?, found?, allFound?}
 use Rattle.proofread_notes.proofs.Areas.{same-self, same-then, notes-same}
-use Rattle.proofread_voices.specs.Voices.{voiceRun, silent, voiceOk?, Fits, ReadsVoice}
+use Rattle.proofread_voices.specs.Voices.{voiceRun, silent, voiceOk?, ReadsVoice}
 use Rattle.proofread_voices.proofs.BarItems.{four-cut}
 use Rattle.proofread.specs.Staffs.{rawsAt}
 use Rattle.proofread.proofs.Hearing.{voice-chords}

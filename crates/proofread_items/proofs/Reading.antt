@@ -1,6 +1,6 @@
 -- The items of a voice in a bar, one after the other: what is left to be heard.
 use Prim.Native.Nat.{ℕ, _+_, _-_, _*_, _≤_, _<_}
-use mathlib.Core.Bool.{Bool, true, false, _&&_, true≢false}
+use mathlib.Core.Bool.{true, false, true≢false}
 use mathlib.Core.List.{List, [], _∷_, map}
 use mathlib.Core.Path.{_≡_, refl, sym, ap, subst, _∙_}
 use native.Mathlib.Nat.{sub-zero, add-zero}
@@ -11,9 +11,9 @@ use Rattle.rules.specs.RawNotes.{RawNote}
 use Rattle.rules.specs.Items.{readItems}
 use Rattle.rules.specs.Items as items
 use Rattle.rules.specs.ProofReader.{itemTicks, Timed, timedFrom, Played}
-use Rattle.proofread_notes.specs.Columns.{Readable, notesAt, Same, Marks}
+use Rattle.proofread_notes.specs.Columns.{notesAt, Same, Marks}
 use Rattle.proofread_notes.proofs.Areas.{same-self, same-then, notes-same}
-use Rattle.proofread_items.specs.Playing.{Heard, hearOne, run, asItem, timedAt, heardOf, Paced, Holds, Hears, Takes, TakesAll}
+use Rattle.proofread_items.specs.Playing.{Heard, hearOne, run, asItem, timedAt, heardOf, Paced, Takes, TakesAll}
 use Rattle.proofread_items.specs.declared.Item.{Item}
 use Rattle.proofread_items.specs.declared.Voice.{Voice}
 use Rattle.proofread_items.proofs.Lengths.{itemAt, items-cons, items-none}

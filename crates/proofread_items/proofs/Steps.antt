@@ -1,21 +1,19 @@
 -- One item of a voice: the chord that it closes, the chord that it opens or prolongs, its tie.
-use Prim.Native.Nat.{ℕ, _+_, _*_, _^_, _≤_, _<_}
+use Prim.Native.Nat.{ℕ, _+_, _≤_}
 use mathlib.Core.Bool.{Bool, true, false, cond, _&&_, true≢false}
-use mathlib.Core.List.{List, [], _∷_}
+use mathlib.Core.List.{List}
 use mathlib.Core.Option.{Option, none, some}
 use mathlib.Core.Path.{_≡_, refl, sym, ap, subst, _∙_}
 use native.Mathlib.Omega.{arith}
 use borrow.Author.Tests.{leb-true}
-use lib.Dec.{leb}
-use Rattle.rules.specs.ProofReader.{itemTicks, Timed, Played, tieAfter}
+use Rattle.rules.specs.ProofReader.{itemTicks, Played}
 use Rattle.rules.specs.ProofReader as facts
-use Rattle.rules.specs.ProofReaderTests.{staffValue?, clean?, meets?}
-use Rattle.proofread_notes.specs.Columns.{Readable, notesAt, Same, Before, Marks}
-use Rattle.proofread_notes.specs.Chords.{playedOf, chordOk?, Checks}
+use Rattle.proofread_notes.specs.Columns.{Readable, notesAt, Marks}
+use Rattle.proofread_notes.specs.Chords.{playedOf, Checks}
 use Rattle.proofread_notes.specs.declared.Chord.{Chord}
 use Rattle.proofread_notes.specs.declared.Checked.{Checked}
 use Rattle.proofread_notes.proofs.Areas.{same-self, before-same, before-later}
-use Rattle.proofread_items.specs.Playing.{Heard, fits?, lastOk?, closedWith, prolongedTo, soundOk?, chordAfter, closedAfter, hearOne, asItem, timedAt, asTie, tieOf, chordOf, heardOf, Paced, Closes, Sounds, Holds, Hears, Takes}
+use Rattle.proofread_items.specs.Playing.{Heard, fits?, prolongedTo, soundOk?, chordAfter, closedAfter, hearOne, asItem, timedAt, tieOf, chordOf, Paced, Closes, Sounds, Takes}
 use Rattle.proofread_items.specs.declared.Item.{Item}
 use Rattle.proofread_items.specs.declared.Tie.{Tie}
 use Rattle.proofread_items.specs.declared.Voice.{Voice}

@@ -1,8 +1,8 @@
 -- Keys as bits of two words: a word by its bits, a word with one key more, a word that has all keys of another.
 use Prim.Native.Nat.{ℕ, zero, suc, _+_, _-_, _*_, _/_, _%_, _^_, _≤_, _<_, max}
-use mathlib.Core.Bool.{Bool, true, false, _&&_}
+use mathlib.Core.Bool.{Bool, true, false}
 use mathlib.Core.Logic.{inl, inr}
-use mathlib.Core.Path.{_≡_, refl, sym, ap, _∙_}
+use mathlib.Core.Path.{_≡_, sym, ap, _∙_}
 use native.Mathlib.Nat.{one-mul, mod-eq-of-lt, div-one, zero-div, add-comm}
 use native.Mathlib.Omega.{arith}
 use borrow.Author.Tests.{eq-eqb, ne-eqb, eqb-true}
@@ -14,7 +14,7 @@ use Rattle.rules.specs.ProofReader.{HasKey}
 use Rattle.rules.specs.ProofReaderTests.{hasKey?}
 use Rattle.laws.specs.Says.{Says}
 use Rattle.laws.proofs.KeyBits.{bit-or, key-own, key-only}
-use Rattle.laws.proofs.Order.{by-eq, by-lt}
+use Rattle.laws.proofs.Order.{by-eq}
 
 pub bit-flag : (b : Bool) → flag b ≤ 1
 bit-flag true = omega arith

@@ -1,27 +1,25 @@
 -- The test of a chord by the group of its start says what section 8 says of its keys and its end.
 use Prim.Native.Nat.{ℕ, _+_, _-_, _*_, _^_, _≤_, _<_}
-use mathlib.Core.Bool.{Bool, true, false, cond, _&&_, _||_, true≢false, false≢true}
-use mathlib.Core.List.{List, [], _∷_}
+use mathlib.Core.Bool.{Bool, true, false, cond, _||_}
+use mathlib.Core.List.{List, _∷_}
 use mathlib.Core.Logic.{_⊎_, inl, inr}
 use mathlib.Core.Path.{_≡_, refl, sym, ap, subst, _∙_}
 use native.Mathlib.Omega.{arith}
 use borrow.Author.Tests.{lt-ltb, le-ltb}
-use lib.Dec.{eqb, ltb}
-use lib.ListN.{getD}
+use lib.Dec.{eqb}
 use Rattle.rules.specs.Lists.{any, bit, flag, Some, here, later}
 use Rattle.rules.specs.RawNotes.{RawNote}
 use Rattle.rules.specs.ProofReader.{Played, HasKey, KeysMeant}
-use Rattle.rules.specs.ProofReaderTests.{keysMeant?, endsWithNote?}
+use Rattle.rules.specs.ProofReaderTests.{keysMeant?}
 use Rattle.laws.specs.Says.{Says}
 use Rattle.laws.proofs.Reflection.{says-eq, says-and, says-any, says-as}
 use Rattle.laws.proofs.Lists.{Some-imp}
-use Rattle.laws.proofs.Order.{by-lt, by-bool}
+use Rattle.laws.proofs.Order.{by-lt}
 use Rattle.laws.proofs.Verdict.{says-meant}
-use Rattle.proofread_notes.specs.Columns.{snapAt, notesAt, Readable, Same, Skipped, hears?, Marks}
-use Rattle.proofread_notes.specs.Chords.{playedOf, keysOf, isNote?, keysFit?, chordOk?, Gathered, Scanned, Checks}
+use Rattle.proofread_notes.specs.Columns.{snapAt, notesAt, Readable, Skipped, hears?, Marks}
+use Rattle.proofread_notes.specs.Chords.{playedOf, isNote?, keysFit?, chordOk?, Gathered, Scanned, Checks}
 use Rattle.proofread_notes.specs.declared.Chord.{Chord}
 use Rattle.proofread_notes.specs.declared.Group.{Group}
-use Rattle.proofread_notes.specs.declared.Checked.{Checked}
 use Rattle.proofread_notes.proofs.Areas.{snap-same}
 use Rattle.proofread_notes.proofs.KeyWords.{says-covers, says-none, low-bit, high-bit}
 

@@ -1,7 +1,7 @@
 -- A scan of the notes of a chord's start: what is known of them up to place i, and the marks put so far.
 use Prim.Native.Nat.{ℕ, _+_, _*_, _^_, _≤_, _<_, max}
 use mathlib.Core.Bool.{Bool, true, false, cond, _&&_, _||_}
-use mathlib.Core.List.{List, [], _∷_, map}
+use mathlib.Core.List.{List, map}
 use mathlib.Core.Logic.{inl, inr}
 use mathlib.Core.Path.{_≡_, refl, sym, ap, _∙_}
 use native.Mathlib.Nat.{zero-div}
@@ -13,10 +13,10 @@ use lib.Seq.{getD-set-same, getD-set-other}
 use Rattle.rules.specs.Lists.{any, bit, flag}
 use Rattle.rules.specs.RawNotes.{RawNote}
 use Rattle.rules.specs.ProofReader.{Played}
-use Rattle.rules.specs.ProofReaderTests.{hasKey?, endsWithNote?}
-use Rattle.laws.proofs.Order.{by-bool, by-eq, by-lt}
+use Rattle.rules.specs.ProofReaderTests.{hasKey?}
+use Rattle.laws.proofs.Order.{by-eq, by-lt}
 use Rattle.laws.specs.Sort.{count}
-use Rattle.proofread_notes.specs.Columns.{snapAt, notesAt, Readable, Same, Before, Skipped, hears?, Marks}
+use Rattle.proofread_notes.specs.Columns.{snapAt, Readable, Same, Skipped, hears?}
 use Rattle.proofread_notes.specs.Chords.{playedOf, keysOf, isNote?, WithNote, Took, Gathered, Scanned}
 use Rattle.proofread_notes.specs.declared.Chord.{Chord}
 use Rattle.proofread_notes.specs.declared.Group.{Group}

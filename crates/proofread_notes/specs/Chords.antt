@@ -1,16 +1,16 @@
 -- A chord held against the notes of its start.
 use Prim.Native.Nat.{ℕ, _+_, _*_, _^_, _<_, max}
-use mathlib.Core.Bool.{Bool, true, cond, _&&_, _||_}
+use mathlib.Core.Bool.{Bool, cond, _&&_, _||_}
 use mathlib.Core.List.{List, _∷_}
 use mathlib.Core.Path.{_≡_}
 use lib.Bits.{bitOr}
 use lib.Dec.{eqb, ltb}
-use lib.ListN.{length, getD, set}
+use lib.ListN.{getD, set}
 use Rattle.rules.specs.Lists.{any, bit, flag}
 use Rattle.rules.specs.RawNotes.{RawNote}
 use Rattle.rules.specs.ProofReader.{Played}
 use Rattle.rules.specs.ProofReaderTests.{hasKey?, keysMeant?, endsWithNote?}
-use Rattle.proofread_notes.specs.Columns.{snapAt, notesAt, Same, Before, Skipped, hears?, Marks}
+use Rattle.proofread_notes.specs.Columns.{snapAt, notesAt, Same, Skipped, hears?, Marks}
 use Rattle.proofread_notes.specs.declared.Chord.{Chord}
 use Rattle.proofread_notes.specs.declared.Group.{Group}
 use Rattle.proofread_notes.specs.declared.Checked.{Checked}

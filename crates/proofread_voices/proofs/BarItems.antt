@@ -1,16 +1,15 @@
 -- The items of a voice in a bar, by the counts of the arrays.
-use Prim.Native.Nat.{ℕ, zero, suc, _+_, _-_, _*_, _≤_, _<_}
-use mathlib.Core.Bool.{Bool, true, false}
+use Prim.Native.Nat.{ℕ, zero, suc, _+_, _*_, _≤_, _<_}
 use mathlib.Core.List.{List, [], _∷_}
 use mathlib.Core.Path.{_≡_, refl, sym, ap, _∙_}
 use native.Mathlib.Nat.{add-zero, add-assoc}
 use native.Mathlib.Omega.{arith}
-use borrow.Author.Tests.{eq-eqb, ne-eqb}
+use borrow.Author.Tests.{ne-eqb}
 use lib.Dec.{eqb}
 use lib.ListN.{length, getD, take, drop, length-take, length-drop}
 use lib.Seq.{drop-drop, getD-drop, take-add}
 use Rattle.rules.specs.Lists.{sum, isEmpty}
-use Rattle.rules.specs.Items.{Item, Staff, readItems, cutBy, byFours}
+use Rattle.rules.specs.Items.{Item, readItems, cutBy, byFours}
 use Rattle.rules.specs.ProofReader.{voiceItems}
 use Rattle.laws.proofs.Lists.{sum-append}
 use Rattle.laws.proofs.Loops.{sum-take}

@@ -1,5 +1,5 @@
 -- One bar of a voice, and the voice's end.
-use Prim.Native.Nat.{ℕ, zero, suc, _+_, _*_, _≤_, _<_}
+use Prim.Native.Nat.{ℕ, zero, suc, _+_, _≤_}
 use mathlib.Core.Bool.{Bool, true, false, cond, _&&_, true≢false}
 use mathlib.Core.List.{List, [], _∷_, map}
 use mathlib.Core.Logic.{inl, inr}
@@ -7,16 +7,15 @@ use mathlib.Core.Path.{_≡_, refl, sym, ap, subst, _∙_}
 use native.Mathlib.Omega.{arith}
 use borrow.Author.Tests.{eq-eqb, ne-eqb, eqb-true}
 use lib.Dec.{eqb}
-use lib.ListN.{length}
 use Rattle.rules.specs.Lists.{sum, isEmpty}
 use Rattle.rules.specs.Bars.{Bar}
 use Rattle.rules.specs.Items.{Item}
 use Rattle.rules.specs.ProofReader.{itemTicks, timedFrom, Played}
 use Rattle.rules.specs.ProofReaderTests.{freeAt?}
-use Rattle.proofread_notes.specs.Columns.{notesAt, Same, Before, Marks}
+use Rattle.proofread_notes.specs.Columns.{notesAt}
 use Rattle.proofread_notes.specs.declared.Chord.{Chord}
 use Rattle.proofread_notes.proofs.Areas.{same-self}
-use Rattle.proofread_items.specs.Playing.{Heard, lastOk?, closedWith, run, tieOf, chordOf, heardOf, Paced, Closes, Holds, TakesAll}
+use Rattle.proofread_items.specs.Playing.{Heard, run, tieOf, chordOf, heardOf, Closes, Holds, TakesAll}
 use Rattle.proofread_items.specs.declared.Voice.{Voice}
 use Rattle.laws.proofs.Order.{by-eq}
 use Rattle.proofread_voices.specs.Voices.{filled?, withOk, full?, ReadsBar, EndsVoice}

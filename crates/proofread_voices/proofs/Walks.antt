@@ -1,10 +1,9 @@
 -- A voice read bar by bar: what is still to be heard of it, with the walk along the bars and the counts passed.
-use Prim.Native.Nat.{ℕ, zero, suc, _+_, _-_, _*_, _^_, _≤_, _<_}
-use mathlib.Core.Bool.{Bool, true, false, cond, _&&_, true≢false}
-use mathlib.Core.List.{List, [], _∷_, map}
+use Prim.Native.Nat.{ℕ, suc, _+_, _-_, _*_, _^_, _≤_, _<_}
+use mathlib.Core.Bool.{Bool, true, false, _&&_, true≢false}
+use mathlib.Core.List.{List, [], _∷_}
 use mathlib.Core.Logic.{inl, inr}
 use mathlib.Core.Path.{_≡_, refl, sym, ap, subst, _∙_}
-use native.Mathlib.Nat.{sub-zero}
 use native.Mathlib.Omega.{arith}
 use lib.ListN.{length, getD, take, drop, length-drop}
 use lib.Seq.{drop-drop, getD-drop}
@@ -14,20 +13,20 @@ use Rattle.rules.specs.Bars.{Bar, barLength, barsFrom, barsIn}
 use Rattle.rules.specs.Items.{Item, Staff, readItems, cutBy, byFours, readStaff}
 use Rattle.rules.specs.ProofReader.{timedFrom, voiceItems, Played}
 use Rattle.rules.specs.ProofReaderTests.{freeAt?}
-use Rattle.words.specs.Track.{Track, eventsOf}
+use Rattle.words.specs.Track.{eventsOf}
 use Rattle.bars.specs.declared.Walker.{Walker}
-use Rattle.bars.specs.Steps.{nextOf, meterIn}
+use Rattle.bars.specs.Steps.{nextOf}
 use Rattle.bars.specs.Walk.{trackMeter, firstWalker, AtBar, Settled}
 use Rattle.bars.proofs.WalkLaws.{Walking, walking-start, walking-on, barOf, barsAhead, ahead-all, ahead-last, ahead-more, ahead-end}
 use Rattle.laws.proofs.BarLaws.{barAt, bars-last, bars-more}
 use Rattle.laws.proofs.Order.{by-lt}
-use Rattle.proofread_notes.specs.Columns.{notesAt, Same, Before, Marks, Readable}
+use Rattle.proofread_notes.specs.Columns.{notesAt, Same, Before, Marks}
 use Rattle.proofread_notes.proofs.Areas.{same-self, same-then, notes-same}
 use Rattle.proofread_items.specs.Playing.{Heard, lastOk?, closedWith, run, tieOf, chordOf, heardOf, Paced}
 use Rattle.proofread_items.specs.declared.Voice.{Voice}
 use Rattle.proofread_items.proofs.Reading.{run-failed}
-use Rattle.proofread_voices.specs.Voices.{filled?, withOk, voiceRun, silent, voiceOk?, full?, Fits, NewVoice, ReadsBar, EndsVoice, ReadsVoice}
-use Rattle.proofread_voices.proofs.BarItems.{fourOf, four-cut, four-voice, sum-more, sum-next, sum-part, empty}
+use Rattle.proofread_voices.specs.Voices.{withOk, voiceRun, silent, voiceOk?, full?, Fits, NewVoice, ReadsBar, EndsVoice, ReadsVoice}
+use Rattle.proofread_voices.proofs.BarItems.{four-cut, four-voice, sum-more, sum-next, sum-part, empty}
 use Rattle.proofread_voices.proofs.Steps.{full-is}
 
 -- ---- one bar, over plain lists

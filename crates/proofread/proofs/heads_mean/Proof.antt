@@ -1,9 +1,10 @@
-use native.Mathlib.Omega.{arith}
-use Rattle.proofread.proofs.Shapes.{mean-fails, mean-goes, mean-end}
-use Rattle.proofread.specs.Staffs.{headsMean?}
-use lib.ListN.{length, drop}
-use mathlib.Core.Path.{_≡_, refl}
+-- `heads_mean` tests head after head. The loop's invariant: the test of the heads from i on is the test of all.
 use Prim.Native.Nat.{_-_}
+use mathlib.Core.Path.{_≡_, refl}
+use native.Mathlib.Omega.{arith}
+use lib.ListN.{length, drop}
+use Rattle.proofread.specs.Staffs.{headsMean?}
+use Rattle.proofread.proofs.Shapes.{mean-fails, mean-goes, mean-end}
 use Rattle.proofread.proofs.heads_mean.Statement.{statement}
 use Rattle.proofread.proofs.heads_mean.Tie as tie
 
@@ -17,20 +18,8 @@ abbrev μ-loop : tie.MeasureT-loop
 loop-holds : tie.Need-loop-holds Inv-loop μ-loop
 loop-holds c = refl
 
-mul-if1 : tie.Need-mul-if1 Inv-loop μ-loop
-mul-if1 c = omega arith
-
-shared-slice-read-if1 : tie.Need-shared-slice-read-if1 Inv-loop μ-loop
-shared-slice-read-if1 c = omega arith
-
 returns : tie.Need-returns Inv-loop μ-loop
 returns c = let a = c .before .before .before .before .args in let l = c .before .before .before .loop in mean-fails (a .heads .now) (l .i) (c .before .before .loop-test .taken) (c .if1 .taken) (l .inv)
-
-add-i : tie.Need-add-i Inv-loop μ-loop
-add-i c = omega arith
-
-loop-less : tie.Need-loop-less Inv-loop μ-loop
-loop-less c = omega arith
 
 loop-again : tie.Need-loop-again Inv-loop μ-loop
 loop-again c = let a = c .before .before .before .before .args in let l = c .before .before .before .loop in mean-goes (a .heads .now) (l .i) (c .before .before .loop-test .taken) (c .if1 .left) (l .inv)
@@ -45,10 +34,10 @@ heads-mean-spec =
     Inv-loop
     μ-loop
     loop-holds
-    mul-if1
-    shared-slice-read-if1
+    (λ c. omega arith)
+    (λ c. omega arith)
     returns
-    add-i
-    loop-less
+    (λ c. omega arith)
+    (λ c. omega arith)
     loop-again
     returns-2)

@@ -1,10 +1,11 @@
+-- `measure` goes along the bars. The loop's invariant: the bars passed and those ahead are all, in number, in their end and in their evenness.
+use Prim.Native.Nat.{_-_}
+use mathlib.Core.Path.{ap}
 use native.Mathlib.Omega.{arith}
-use Rattle.proofread.proofs.Measuring.{Measuring, measuring-start, measuring-last, measuring-more, measuring-end, long}
-use Rattle.proofread.specs.declared.Measured.{Measured}
 use Rattle.bars.proofs.WalkLaws.{walking-sane, walking-ready}
 use Rattle.bars.specs.declared.Walker.{Walker}
-use mathlib.Core.Path.{ap}
-use Prim.Native.Nat.{_-_}
+use Rattle.proofread.specs.declared.Measured.{Measured}
+use Rattle.proofread.proofs.Measuring.{Measuring, measuring-start, measuring-last, measuring-more, measuring-end, long}
 use Rattle.proofread.proofs.measure.Statement.{statement}
 use Rattle.proofread.proofs.measure.Tie as tie
 
@@ -24,9 +25,6 @@ loop-holds c = measuring-start (c .first-bar .ensures)
 next-bar-requires : tie.Need-next-bar-requires Inv-loop μ-loop
 next-bar-requires c κs = walking-sane (c .before .before .loop .inv .walking) (c .before .before .before .before .before .before .pre .0 .ticks)
 
-sub-with-bar : tie.Need-sub-with-bar Inv-loop μ-loop
-sub-with-bar c = omega (arith, ap (λ (w : Walker). w .start) (c .before .before .next-bar .ensures))
-
 with-bar-requires : tie.Need-with-bar-requires Inv-loop μ-loop
 with-bar-requires c κs = (c .before .before .before .before .before .before .before .before .before .pre .1, c .before .before .before .if1 .taken)
 
@@ -36,9 +34,6 @@ returns c = let n = c .before .before .before .before .before .next-bar .ensures
 
 take-changes-requires : tie.Need-take-changes-requires Inv-loop μ-loop
 take-changes-requires c κs = let n = c .before .before .before .before .before .next-bar .ensures in rw n (walking-ready (c .before .before .before .before .before .before .before .before .loop .inv .walking) (c .before .before .before .before .before .before .before .before .before .before .before .before .pre .0 .track) _ (c .before .before .before .before .before .before .before .before .before .before .before .before .pre .0 .end-fits) (rw n at (c .if2 .left)))
-
-loop-less : tie.Need-loop-less Inv-loop μ-loop
-loop-less c = omega (arith, c .before .before .before .before .before .before .before .if1 .taken, ap (λ (y : Measured). y .bars) (c .before .before .before .with-bar .ensures))
 
 loop-again : tie.Need-loop-again Inv-loop μ-loop
 loop-again c = let n = c .before .before .before .before .before .before .next-bar .ensures in
@@ -56,10 +51,10 @@ measure-spec =
     first-bar-requires
     loop-holds
     next-bar-requires
-    sub-with-bar
+    (λ c. omega (arith, ap (λ (w : Walker). w .start) (c .before .before .next-bar .ensures)))
     with-bar-requires
     returns
     take-changes-requires
-    loop-less
+    (λ c. omega (arith, c .before .before .before .before .before .before .before .if1 .taken, ap (λ (y : Measured). y .bars) (c .before .before .before .with-bar .ensures)))
     loop-again
     returns-2)

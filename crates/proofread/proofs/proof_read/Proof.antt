@@ -1,5 +1,9 @@
+-- `proof_read`: the notes are collected, evenness is asked, then the arrays' shape, then the staff.
+use mathlib.Core.Path.{sym, ap, _∙_}
+use mathlib.Core.List.{List}
 use native.Mathlib.Omega.{arith}
-use Rattle.proofread.proofs.Answers.{raws-are, notes-readable, fits-of, uneven-grid, uneven-bars, malformed, answered}
+use borrow.Author.Tests.{not-true, not-false}
+use borrow.Author.Needs.{needs}
 use Rattle.words.proofs.Ranges.{track-notes}
 use Rattle.words.specs.Track.{eventsOf}
 use Rattle.rules.specs.ProofReaderTests.{right?}
@@ -8,30 +12,12 @@ use Rattle.rules.specs.Grid.{grid}
 use Rattle.rules.specs.Bars.{Bar, barsIn, mostBars}
 use Rattle.rules.specs.RawNotes.{RawNote, rawNotes}
 use Rattle.rules.specs.Piece.{Event}
-use borrow.Author.Tests.{not-true, not-false}
-use mathlib.Core.Path.{sym, ap, _∙_}
-use mathlib.Core.List.{List}
-use borrow.Author.Needs.{needs}
+use Rattle.proofread.proofs.Answers.{raws-are, notes-readable, fits-of, uneven-grid, uneven-bars, malformed, answered}
 use Rattle.proofread.proofs.proof_read.Statement.{statement}
 use Rattle.proofread.proofs.proof_read.Tie as tie
 
-collect-raw-notes-requires : tie.Need-collect-raw-notes-requires
-collect-raw-notes-requires c κs = search needs
-
 grid-of-requires : tie.Need-grid-of-requires
 grid-of-requires c κs = (c .before .before .before .collect-raw-notes .ensures .room, omega (arith, c .before .before .before .collect-raw-notes .kept .1 .1 .0, c .before .before .before .before .before .before .before .before .before .before .before .before .before .pre .4))
-
-smallest-value-requires : tie.Need-smallest-value-requires
-smallest-value-requires c κs = search needs
-
-measure-requires : tie.Need-measure-requires
-measure-requires c κs = search needs
-
-rem-if1 : tie.Need-rem-if1
-rem-if1 c = search needs
-
-same-length : tie.Need-same-length
-same-length c = search needs
 
 returns : tie.Need-returns
 returns c = let a = c .before .before .before .before .before .before .before .before .before .before .before .before .before .before .before .before .before .args in
@@ -47,9 +33,6 @@ returns c = let a = c .before .before .before .before .before .before .before .b
     let eu = c .before .before .smallest-value .ensures .0 in
     let mx = c .before .measure .ensures in
     uneven-grid (a .p) g u (rawNotes es) bs (a .counts .now) (a .heads .now) (a .keys .now) x eg eu mx (c .if1 .taken)
-
-same-length-2 : tie.Need-same-length-2
-same-length-2 c = search needs
 
 returns-2 : tie.Need-returns-2
 returns-2 c = let a = c .before .before .before .before .before .before .before .before .before .before .before .before .before .before .before .before .before .before .before .args in
@@ -68,9 +51,6 @@ returns-2 c = let a = c .before .before .before .before .before .before .before 
 
 shaped-requires : tie.Need-shaped-requires
 shaped-requires c κs = c .before .before .before .measure .ensures .few
-
-same-length-3 : tie.Need-same-length-3
-same-length-3 c = search needs
 
 returns-3 : tie.Need-returns-3
 returns-3 c = let a = c .before .before .before .before .before .before .before .before .before .before .before .before .before .before .before .before .before .before .before .before .before .args in
@@ -92,9 +72,6 @@ read-staff-requires c κs = let q = c .before .before .before .before .before .b
     let noted = c .before .before .before .before .before .before .before .before .before .before .before .before .collect-raw-notes .ensures in
     (notes-readable noted (track-notes (q .2)) (c .before .before .before .before .before .before .before .before .before .before .before .before .before .before .before .before .before .before .before .before .before .before .args .p) (q .0 .ticks) (omega (arith, c .before .before .before .before .before .before .before .before .before .before .before .before .collect-raw-notes .kept .1 .1 .0, q .4)) (c .before .before .before .before .before .before .before .before .grid-of .ensures), q .0, fits-of (c .before .before .shaped .ensures) (c .before .before .before .before .before .before .measure .ensures .bars) (not-false (c .before .before .shaped .result) (c .before .if3 .left)), c .before .before .before .before .before .before .measure .ensures .end)
 
-same-length-4 : tie.Need-same-length-4
-same-length-4 c = search needs
-
 returns-4 : tie.Need-returns-4
 returns-4 c = let a = c .before .before .before .before .before .before .before .before .before .before .before .before .before .before .before .before .before .before .before .before .before .before .before .before .before .before .args in
     let q = c .before .before .before .before .before .before .before .before .before .before .before .before .before .before .before .before .before .before .before .before .before .before .before .before .before .before .pre in
@@ -111,9 +88,6 @@ returns-4 c = let a = c .before .before .before .before .before .before .before 
     let st : Staff = readStaff (record { counts = a .counts .now; heads = a .heads .now; keys = a .keys .now }) in
     answered (a .p) g u (rawNotes es) bs (a .counts .now) (a .heads .now) (a .keys .now) x eg eu mx (c .before .before .before .before .before .before .before .before .before .if1 .left) (not-false (x .even) (c .before .before .before .before .before .before .before .if2 .left)) (c .before .before .before .before .before .before .shaped .ensures) (not-false (c .before .before .before .before .before .before .shaped .result) (c .before .before .before .before .before .if3 .left))
     (sym (c .if4 .taken) ∙ c .before .before .before .read-staff .ensures ∙ ap (λ (l : List RawNote). right? (a .p) g l bs st) raws)
-
-same-length-5 : tie.Need-same-length-5
-same-length-5 c = search needs
 
 returns-5 : tie.Need-returns-5
 returns-5 c = let a = c .before .before .before .before .before .before .before .before .before .before .before .before .before .before .before .before .before .before .before .before .before .before .before .before .before .before .args in
@@ -136,20 +110,20 @@ pub proof-read-spec : {M : Type 1} → statement M
 proof-read-spec =
     tie.close
     (tie.spec
-    collect-raw-notes-requires
+    (λ c κs. search needs)
     grid-of-requires
-    smallest-value-requires
-    measure-requires
-    rem-if1
-    same-length
+    (λ c κs. search needs)
+    (λ c κs. search needs)
+    (λ c. search needs)
+    (λ c. search needs)
     returns
-    same-length-2
+    (λ c. search needs)
     returns-2
     shaped-requires
-    same-length-3
+    (λ c. search needs)
     returns-3
     read-staff-requires
-    same-length-4
+    (λ c. search needs)
     returns-4
-    same-length-5
+    (λ c. search needs)
     returns-5)

@@ -1,13 +1,14 @@
+-- `read_staff` reads voice after voice. The loop's invariant: the first v voices are right, and their chords have left their marks.
+use Prim.Native.Nat.{_-_}
+use mathlib.Core.Path.{_∙_}
+use mathlib.Core.List.{List}
 use native.Mathlib.Omega.{arith}
-use Rattle.proofread.proofs.Staffing.{Voices, voices-start, voices-more, staff-fails, staff-end, fours-read}
+use borrow.Author.Tests.{not-true, not-false}
 use Rattle.proofread_notes.proofs.Areas.{readable-same, same-then}
 use Rattle.words.specs.Track.{eventsOf}
 use Rattle.rules.specs.Items.{readStaff}
 use Rattle.rules.specs.Bars.{Bar, barsIn, mostBars}
-use borrow.Author.Tests.{not-true, not-false}
-use mathlib.Core.Path.{_∙_}
-use mathlib.Core.List.{List}
-use Prim.Native.Nat.{_-_}
+use Rattle.proofread.proofs.Staffing.{Voices, voices-start, voices-more, staff-fails, staff-end, fours-read}
 use Rattle.proofread.proofs.read_staff.Statement.{statement}
 use Rattle.proofread.proofs.read_staff.Tie as tie
 
@@ -37,12 +38,6 @@ returns c = let a = c .before .before .before .before .before .before .before .b
     let fours = fours-read bs (a .counts .now) (a .heads .now) (a .keys .now) (q .2 .bars) in
     staff-fails (a .g) (a .n) (a .m) (a .e) (a .p) bs _ (a .work .now) _ (q .0 .room) (c .before .before .before .before .before .before .before .before .before .clear-marks .ensures .same) fours (q .3) (c .before .before .before .before .before .loop-test .taken) (c .before .before .before .before .before .before .loop .inv) (c .before .before .before .read-voice .ensures) (not-true (c .before .before .before .read-voice .result) (c .if1 .taken))
 
-add-v : tie.Need-add-v Inv-loop μ-loop
-add-v c = omega arith
-
-loop-less : tie.Need-loop-less Inv-loop μ-loop
-loop-less c = omega arith
-
 loop-again : tie.Need-loop-again Inv-loop μ-loop
 loop-again c = voices-more (c .before .before .before .before .before .before .before .before .before .before .before .before .before .before .before .before .before .pre .0 .room) (c .before .before .before .before .before .before .loop .inv) (c .before .before .before .read-voice .ensures) (c .before .before .before .before .before .loop-test .taken) (not-false (c .before .before .before .read-voice .result) (c .if1 .left))
 
@@ -70,8 +65,8 @@ read-staff-spec =
     read-voice-requires
     same-length
     returns
-    add-v
-    loop-less
+    (λ c. omega arith)
+    (λ c. omega arith)
     loop-again
     all-found-requires
     same-length-2

@@ -1,10 +1,11 @@
+-- `smallest_value` halves p. The loop's invariant: what is halved from here on gives the smallest value.
+use Prim.Native.Nat.{_-_, _<_}
+use mathlib.Core.Path.{_≡_, sym, _∙_}
 use native.Mathlib.Omega.{arith}
-use Rattle.proofread.proofs.Shapes.{smallest-step}
 use Rattle.laws.proofs.Values.{smallest-halved, halved-odd, halved-zero}
 use Rattle.laws.specs.Ladder.{halved}
 use Rattle.rules.specs.Values.{smallest}
-use mathlib.Core.Path.{_≡_, sym, _∙_}
-use Prim.Native.Nat.{_-_, _<_}
+use Rattle.proofread.proofs.Shapes.{smallest-step}
 use Rattle.proofread.proofs.smallest_value.Statement.{statement}
 use Rattle.proofread.proofs.smallest_value.Tie as tie
 
@@ -21,12 +22,6 @@ loop-holds c = (sym (smallest-halved (c .args .p)), c .pre)
 returns : tie.Need-returns Inv-loop μ-loop
 returns c = let l = c .before .before .loop in (sym (halved-odd _ (l .u) (c .if1 .taken)) ∙ l .inv .0, l .inv .1)
 
-add-k : tie.Need-add-k Inv-loop μ-loop
-add-k c = omega arith
-
-loop-less : tie.Need-loop-less Inv-loop μ-loop
-loop-less c = omega arith
-
 loop-again : tie.Need-loop-again Inv-loop μ-loop
 loop-again c = let l = c .before .before .loop in (smallest-step (l .k) (l .u) (c .before .loop-test .taken) (c .if1 .left) (l .inv .0), omega (arith, l .inv .1, c .if1 .left))
 
@@ -35,4 +30,4 @@ returns-2 c = let l = c .before .loop in (sym (halved-zero _ (l .u) (omega arith
 
 pub smallest-value-spec : {M : Type 1} → statement M
 smallest-value-spec =
-    tie.close (tie.spec Inv-loop μ-loop loop-holds returns add-k loop-less loop-again returns-2)
+    tie.close (tie.spec Inv-loop μ-loop loop-holds returns (λ c. omega arith) (λ c. omega arith) loop-again returns-2)

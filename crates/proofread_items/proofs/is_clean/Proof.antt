@@ -1,5 +1,6 @@
-use Rattle.proofread_items.proofs.Lengths.{low-some, high-some, none-is, high-only}
+-- `is_clean` makes the tests of rests and of other items in turn.
 use borrow.Author.Needs.{needs}
+use Rattle.proofread_items.proofs.Lengths.{low-some, high-some, none-is, high-only}
 use Rattle.proofread_items.proofs.is_clean.Statement.{statement}
 use Rattle.proofread_items.proofs.is_clean.Tie as tie
 
@@ -8,9 +9,6 @@ returns c = rw (c .before .before .if1 .taken, low-some _ _ (c .if2 .taken) .0)
 
 returns-2 : tie.Need-returns-2
 returns-2 c = rw (c .before .before .before .before .if1 .taken, high-some _ _ (c .if3 .taken) .0)
-
-unmarked-requires : tie.Need-unmarked-requires
-unmarked-requires c κs = search needs
 
 returns-3 : tie.Need-returns-3
 returns-3 c = rw (c .before .before .before .before .before .if1 .taken, none-is _ _ (c .before .before .before .if2 .left) (c .before .if3 .left)) (c .unmarked .ensures)
@@ -23,4 +21,4 @@ returns-5 c = rw (c .before .before .before .if1 .left) (high-only _ _ (c .befor
 
 pub is-clean-spec : {M : Type 1} → statement M
 is-clean-spec =
-    tie.close (tie.spec returns returns-2 unmarked-requires returns-3 returns-4 returns-5)
+    tie.close (tie.spec returns returns-2 (λ c κs. search needs) returns-3 returns-4 returns-5)

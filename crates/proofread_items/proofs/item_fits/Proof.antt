@@ -1,15 +1,7 @@
+-- `item_fits` makes three tests in turn.
 use borrow.Author.Needs.{needs}
 use Rattle.proofread_items.proofs.item_fits.Statement.{statement}
 use Rattle.proofread_items.proofs.item_fits.Tie as tie
-
-is-value-requires : tie.Need-is-value-requires
-is-value-requires c κs = search needs
-
-is-clean-requires : tie.Need-is-clean-requires
-is-clean-requires c κs = search needs
-
-meets-requires : tie.Need-meets-requires
-meets-requires c κs = search needs
 
 returns : tie.Need-returns
 returns c = rw (← c .before .before .before .before .is-value .ensures, c .before .before .before .if1 .taken, ← c .before .before .is-clean .ensures, c .before .if2 .taken) (c .meets .ensures)
@@ -23,4 +15,4 @@ returns-3 c = rw (← c .before .is-value .ensures, c .if1 .left)
 pub item-fits-spec : {M : Type 1} → statement M
 item-fits-spec =
     tie.close
-    (tie.spec is-value-requires is-clean-requires meets-requires returns returns-2 returns-3)
+    (tie.spec (λ c κs. search needs) (λ c κs. search needs) (λ c κs. search needs) returns returns-2 returns-3)

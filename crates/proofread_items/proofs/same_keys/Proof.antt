@@ -1,3 +1,4 @@
+-- `same_keys` compares two words of keys and the mark.
 use native.Mathlib.Omega.{arith}
 use Rattle.proofread_items.proofs.Lengths.{words-differ, words-differ-2, words-same}
 use Rattle.proofread_items.proofs.same_keys.Statement.{statement}

@@ -1,9 +1,10 @@
-use borrow.Author.Tests.{not-true, not-false}
+-- `take_items` takes items one by one. The loop's invariant: what is left to be heard from here is what was left at the start.
+use Prim.Native.Nat.{_+_, _-_, _*_, _≤_}
 use mathlib.Core.Path.{_∙_}
 use native.Mathlib.Omega.{arith}
-use Rattle.proofread_items.proofs.Reading.{Reading, itemsOf, itemsLeft, reading-start, reading-more, reading-failed, arrays-start, arrays-next, arrays-end}
+use borrow.Author.Tests.{not-true, not-false}
 use Rattle.proofread_notes.proofs.Areas.{readable-same}
-use Prim.Native.Nat.{_+_, _-_, _*_, _≤_}
+use Rattle.proofread_items.proofs.Reading.{Reading, itemsOf, itemsLeft, reading-start, reading-more, reading-failed, arrays-start, arrays-next, arrays-end}
 use Rattle.proofread_items.proofs.take_items.Statement.{statement}
 use Rattle.proofread_items.proofs.take_items.Tie as tie
 
@@ -17,39 +18,6 @@ abbrev μ-loop : tie.MeasureT-loop
 loop-holds : tie.Need-loop-holds Inv-loop μ-loop
 loop-holds c = let a = c .before .before .before .args in (arrays-start (a .heads .now) (a .keys .now) (a .first) (a .count) (reading-start (c .before .before .before .pre .2) (c .before .before .before .pre .1)), omega arith, omega arith)
 
-add-k : tie.Need-add-k Inv-loop μ-loop
-add-k c = omega arith
-
-mul-item-of : tie.Need-mul-item-of Inv-loop μ-loop
-mul-item-of c = omega arith
-
-shared-slice-read-item-of : tie.Need-shared-slice-read-item-of Inv-loop μ-loop
-shared-slice-read-item-of c = omega arith
-
-mul-item-of-2 : tie.Need-mul-item-of-2 Inv-loop μ-loop
-mul-item-of-2 c = omega arith
-
-mul-item-of-3 : tie.Need-mul-item-of-3 Inv-loop μ-loop
-mul-item-of-3 c = omega arith
-
-shared-slice-read-item-of-2 : tie.Need-shared-slice-read-item-of-2 Inv-loop μ-loop
-shared-slice-read-item-of-2 c = omega arith
-
-mul-item-of-4 : tie.Need-mul-item-of-4 Inv-loop μ-loop
-mul-item-of-4 c = omega arith
-
-add-item-of : tie.Need-add-item-of Inv-loop μ-loop
-add-item-of c = omega arith
-
-mul-item-of-5 : tie.Need-mul-item-of-5 Inv-loop μ-loop
-mul-item-of-5 c = omega arith
-
-shared-slice-read-item-of-3 : tie.Need-shared-slice-read-item-of-3 Inv-loop μ-loop
-shared-slice-read-item-of-3 c = omega arith
-
-item-of-requires : tie.Need-item-of-requires Inv-loop μ-loop
-item-of-requires c κs = omega arith
-
 take-item-requires : tie.Need-take-item-requires Inv-loop μ-loop
 take-item-requires c κs = let l = c .before .before .before .before .before .before .loop in let q = c .before .before .before .before .before .before .before .before .before .before .pre in (readable-same (l .inv .0 .area) (q .0), l .inv .0 .paced, l .inv .0 .ok, q .3, c .before .item-of .ensures .1, omega (arith, l .inv .2, q .4, q .5))
 
@@ -60,12 +28,6 @@ returns : tie.Need-returns Inv-loop μ-loop
 returns c = let a = c .before .before .before .before .before .before .before .before .before .before .before .before .before .before .before .args in
     let l = c .before .before .before .before .before .before .before .before .before .before .before .loop in
     reading-failed (c .before .before .before .before .before .before .before .before .before .before .before .before .before .before .before .pre .0 .room) (arrays-next (a .heads .now) (a .keys .now) (a .first) (a .count) (c .before .before .before .before .before .before .item-of .result) (c .before .before .before .before .before .before .before .before .before .before .loop-test .taken) (c .before .before .before .before .before .before .before .before .before .before .before .before .before .before .before .pre .6) (c .before .before .before .before .before .before .before .before .before .before .before .before .before .before .before .pre .7) (c .before .before .before .before .before .before .item-of .ensures .0) (l .inv .0)) (c .before .before .before .before .take-item .ensures) (not-true (c .before .before .before .before .take-item .result .ok) (c .if1 .taken))
-
-add-i : tie.Need-add-i Inv-loop μ-loop
-add-i c = omega (arith, c .before .before .before .before .before .before .before .before .before .before .loop-test .taken, c .before .before .before .before .before .before .before .before .before .before .before .before .before .before .before .pre .5)
-
-loop-less : tie.Need-loop-less Inv-loop μ-loop
-loop-less c = omega (arith, c .before .before .before .before .before .before .before .before .before .before .loop-test .taken)
 
 loop-again : tie.Need-loop-again Inv-loop μ-loop
 loop-again c = let a = c .before .before .before .before .before .before .before .before .before .before .before .before .before .before .before .args in
@@ -86,22 +48,22 @@ take-items-spec =
     Inv-loop
     μ-loop
     loop-holds
-    add-k
-    mul-item-of
-    shared-slice-read-item-of
-    mul-item-of-2
-    mul-item-of-3
-    shared-slice-read-item-of-2
-    mul-item-of-4
-    add-item-of
-    mul-item-of-5
-    shared-slice-read-item-of-3
-    item-of-requires
+    (λ c. omega arith)
+    (λ c. omega arith)
+    (λ c. omega arith)
+    (λ c. omega arith)
+    (λ c. omega arith)
+    (λ c. omega arith)
+    (λ c. omega arith)
+    (λ c. omega arith)
+    (λ c. omega arith)
+    (λ c. omega arith)
+    (λ c κs. omega arith)
     take-item-requires
     same-length
     returns
-    add-i
-    loop-less
+    (λ c. omega (arith, c .before .before .before .before .before .before .before .before .before .before .loop-test .taken, c .before .before .before .before .before .before .before .before .before .before .before .before .before .before .before .pre .5))
+    (λ c. omega (arith, c .before .before .before .before .before .before .before .before .before .before .loop-test .taken))
     loop-again
     same-length-2
     returns-2)

@@ -1,12 +1,13 @@
-use borrow.Author.Tests.{not-true, not-false}
-use Rattle.proofread_notes.proofs.Rests.{every-fails, every-goes, every-none}
+-- `all_found` tests the notes one by one. The loop's invariant: the test of the notes from i on is the test of all.
+use Prim.Native.Nat.{_-_}
 use mathlib.Core.Path.{_≡_, sym, _∙_}
 use native.Mathlib.Omega.{arith}
-use Rattle.proofread_notes.specs.Columns.{found?, allFound?}
+use native.Mathlib.Nat.{sub-zero}
+use borrow.Author.Tests.{not-true, not-false}
 use Rattle.laws.specs.Sort.{count}
 use Rattle.rules.specs.Lists.{every}
-use native.Mathlib.Nat.{sub-zero}
-use Prim.Native.Nat.{_-_}
+use Rattle.proofread_notes.specs.Columns.{found?, allFound?}
+use Rattle.proofread_notes.proofs.Rests.{every-fails, every-goes, every-none}
 use Rattle.proofread_notes.proofs.all_found.Statement.{statement}
 use Rattle.proofread_notes.proofs.all_found.Tie as tie
 
@@ -23,29 +24,8 @@ loop-holds c = rw sub-zero
 start-of-requires : tie.Need-start-of-requires Inv-loop μ-loop
 start-of-requires c κs = (c .before .before .before .pre, omega arith)
 
-mul-found : tie.Need-mul-found Inv-loop μ-loop
-mul-found c = omega arith
-
-add-found : tie.Need-add-found Inv-loop μ-loop
-add-found c = omega arith
-
-mul-found-2 : tie.Need-mul-found-2 Inv-loop μ-loop
-mul-found-2 c = omega arith
-
-shared-slice-read-found : tie.Need-shared-slice-read-found Inv-loop μ-loop
-shared-slice-read-found c = omega arith
-
-found-requires : tie.Need-found-requires Inv-loop μ-loop
-found-requires c κs = omega arith
-
 returns : tie.Need-returns Inv-loop μ-loop
 returns c = let l = c .before .before .before .before .before .loop in every-fails _ _ (l .i) _ (l .inv) (c .before .before .before .before .loop-test .taken) (sym (rw (c .before .before .before .start-of .ensures .0) at (c .before .found .ensures)) ∙ not-true _ (c .if1 .taken))
-
-add-i : tie.Need-add-i Inv-loop μ-loop
-add-i c = omega arith
-
-loop-less : tie.Need-loop-less Inv-loop μ-loop
-loop-less c = omega arith
 
 loop-again : tie.Need-loop-again Inv-loop μ-loop
 loop-again c = let l = c .before .before .before .before .before .loop in every-goes _ _ (l .i) _ (l .inv) (c .before .before .before .before .loop-test .taken) (sym (rw (c .before .before .before .start-of .ensures .0) at (c .before .found .ensures)) ∙ not-false _ (c .if1 .left))
@@ -61,13 +41,13 @@ all-found-spec =
     μ-loop
     loop-holds
     start-of-requires
-    mul-found
-    add-found
-    mul-found-2
-    shared-slice-read-found
-    found-requires
+    (λ c. omega arith)
+    (λ c. omega arith)
+    (λ c. omega arith)
+    (λ c. omega arith)
+    (λ c κs. omega arith)
     returns
-    add-i
-    loop-less
+    (λ c. omega arith)
+    (λ c. omega arith)
     loop-again
     returns-2)

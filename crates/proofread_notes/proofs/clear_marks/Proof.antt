@@ -1,6 +1,7 @@
+-- `clear_marks` clears one mark after the other. The loop's invariant: the first i marks are cleared, and the notes are as they were.
+use Prim.Native.Nat.{_-_}
 use native.Mathlib.Omega.{arith}
 use Rattle.proofread_notes.proofs.Areas.{same-self, Clearing, clear-more, clear-end}
-use Prim.Native.Nat.{_-_}
 use Rattle.proofread_notes.proofs.clear_marks.Statement.{statement}
 use Rattle.proofread_notes.proofs.clear_marks.Tie as tie
 
@@ -13,24 +14,6 @@ abbrev μ-loop : tie.MeasureT-loop
 
 loop-holds : tie.Need-loop-holds Inv-loop μ-loop
 loop-holds c = record { within = omega arith; cleared = record { same = same-self _ _; marks = λ j h. absurd (omega arith) } }
-
-mul-work : tie.Need-mul-work Inv-loop μ-loop
-mul-work c = omega arith
-
-add-work : tie.Need-add-work Inv-loop μ-loop
-add-work c = omega arith
-
-mul-work-2 : tie.Need-mul-work-2 Inv-loop μ-loop
-mul-work-2 c = omega arith
-
-slice-write-work : tie.Need-slice-write-work Inv-loop μ-loop
-slice-write-work c = omega arith
-
-add-i : tie.Need-add-i Inv-loop μ-loop
-add-i c = omega arith
-
-loop-less : tie.Need-loop-less Inv-loop μ-loop
-loop-less c = omega arith
 
 loop-again : tie.Need-loop-again Inv-loop μ-loop
 loop-again c = clear-more (omega arith) (c .before .before .pre .0) (c .before .before .pre .1) (c .before .loop .inv)
@@ -48,12 +31,12 @@ clear-marks-spec =
     Inv-loop
     μ-loop
     loop-holds
-    mul-work
-    add-work
-    mul-work-2
-    slice-write-work
-    add-i
-    loop-less
+    (λ c. omega arith)
+    (λ c. omega arith)
+    (λ c. omega arith)
+    (λ c. omega arith)
+    (λ c. omega arith)
+    (λ c. omega arith)
     loop-again
     same-length
     returns)

@@ -1,3 +1,4 @@
+-- `found` makes two tests in turn.
 use borrow.Author.Tests.{lt-ltb, le-ltb}
 use Rattle.proofread_notes.proofs.found.Statement.{statement}
 use Rattle.proofread_notes.proofs.found.Tie as tie

@@ -1,14 +1,9 @@
+-- `has_key` reads a bit of the low or of the high word.
 use native.Mathlib.Omega.{arith}
-use Rattle.proofread_notes.proofs.KeyWords.{has-low, has-high}
 use borrow.Author.Needs.{needs}
+use Rattle.proofread_notes.proofs.KeyWords.{has-low, has-high}
 use Rattle.proofread_notes.proofs.has_key.Statement.{statement}
 use Rattle.proofread_notes.proofs.has_key.Tie as tie
-
-shr-result : tie.Need-shr-result
-shr-result c = search needs
-
-shr-result-2 : tie.Need-shr-result-2
-shr-result-2 c = search needs
 
 returns : tie.Need-returns
 returns c = has-low (c .before .args .key) (c .before .args .low) (c .before .args .high) (omega arith) (omega arith)
@@ -17,4 +12,4 @@ returns-2 : tie.Need-returns-2
 returns-2 c = has-high (c .before .args .key) (c .before .args .low) (c .before .args .high) (omega arith) (omega arith)
 
 pub has-key-spec : {M : Type 1} → statement M
-has-key-spec = tie.close (tie.spec shr-result shr-result-2 returns returns-2)
+has-key-spec = tie.close (tie.spec (λ c. search needs) (λ c. search needs) returns returns-2)

@@ -1,13 +1,8 @@
+-- `keys_meant` makes its tests in turn.
 use borrow.Author.Tests.{lt-ltb, le-ltb, eq-eqb, ne-eqb}
 use borrow.Author.Needs.{needs}
 use Rattle.proofread_notes.proofs.keys_meant.Statement.{statement}
 use Rattle.proofread_notes.proofs.keys_meant.Tie as tie
-
-covers-requires : tie.Need-covers-requires
-covers-requires c κs = search needs
-
-covers-requires-2 : tie.Need-covers-requires-2
-covers-requires-2 c κs = search needs
 
 returns : tie.Need-returns
 returns c = rw (lt-ltb _ _ (c .before .before .before .if1 .taken), ← c .before .before .covers .ensures, c .before .if2 .taken) (c .covers2 .ensures)
@@ -23,4 +18,4 @@ returns-4 c = rw (le-ltb _ _ (c .before .before .if1 .left), ne-eqb _ _ (c .if3 
 
 pub keys-meant-spec : {M : Type 1} → statement M
 keys-meant-spec =
-    tie.close (tie.spec covers-requires covers-requires-2 returns returns-2 returns-3 returns-4)
+    tie.close (tie.spec (λ c κs. search needs) (λ c κs. search needs) returns returns-2 returns-3 returns-4)

@@ -1,8 +1,9 @@
+-- `scan` takes the notes of the chord's start. The loop's invariant: what is known of the first i notes, and their marks.
+use Prim.Native.Nat.{_-_}
+use mathlib.Core.Path.{sym, _∙_}
 use native.Mathlib.Omega.{arith}
 use Rattle.proofread_notes.proofs.Scanning.{Scanning, scan-start, scan-more, scan-stop, scan-last}
 use Rattle.proofread_notes.proofs.Areas.{readable-same}
-use mathlib.Core.Path.{sym, _∙_}
-use Prim.Native.Nat.{_-_}
 use Rattle.proofread_notes.proofs.scan.Statement.{statement}
 use Rattle.proofread_notes.proofs.scan.Tie as tie
 
@@ -28,12 +29,6 @@ returns c = scan-stop (c .before .before .before .before .before .before .before
 take-note-requires : tie.Need-take-note-requires Inv-loop μ-loop
 take-note-requires c κs = (readable-same (c .before .before .before .before .before .before .loop .inv .same) (c .before .before .before .before .before .before .before .before .pre .0), omega arith)
 
-add-i : tie.Need-add-i Inv-loop μ-loop
-add-i c = omega arith
-
-loop-less : tie.Need-loop-less Inv-loop μ-loop
-loop-less c = omega arith
-
 loop-again : tie.Need-loop-again Inv-loop μ-loop
 loop-again c = scan-more (c .before .before .before .before .before .before .before .before .before .before .before .pre .0) (c .before .before .before .before .before .before .before .before .before .loop .inv) (c .before .before .before .before .before .before .before .before .loop-test .taken) (sym (c .before .before .before .before .before .before .start-of .ensures .0) ∙ c .before .before .before .before .if1 .left) (c .before .before .take-note .ensures)
 
@@ -54,8 +49,8 @@ scan-spec =
     same-length
     returns
     take-note-requires
-    add-i
-    loop-less
+    (λ c. omega arith)
+    (λ c. omega arith)
     loop-again
     same-length-2
     returns-2)

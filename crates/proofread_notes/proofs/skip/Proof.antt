@@ -1,7 +1,8 @@
-use native.Mathlib.Omega.{arith}
-use Rattle.proofread_notes.proofs.Areas.{before-more}
-use Rattle.proofread_notes.specs.Columns.{Before}
+-- `skip` passes the notes that start earlier. The loop's invariant: the first i notes start before the tick.
 use Prim.Native.Nat.{_≤_, _-_}
+use native.Mathlib.Omega.{arith}
+use Rattle.proofread_notes.specs.Columns.{Before}
+use Rattle.proofread_notes.proofs.Areas.{before-more}
 use Rattle.proofread_notes.proofs.skip.Statement.{statement}
 use Rattle.proofread_notes.proofs.skip.Tie as tie
 
@@ -21,12 +22,6 @@ start-of-requires c κs = (c .before .before .before .pre .0, omega arith)
 returns : tie.Need-returns Inv-loop μ-loop
 returns c = record { within = omega arith; before = c .before .before .before .loop .inv .1; from = λ h. omega (arith, c .before .start-of .ensures .0, c .if1 .taken) }
 
-add-i : tie.Need-add-i Inv-loop μ-loop
-add-i c = omega arith
-
-loop-less : tie.Need-loop-less Inv-loop μ-loop
-loop-less c = omega arith
-
 loop-again : tie.Need-loop-again Inv-loop μ-loop
 loop-again c = (omega arith, before-more (c .before .before .before .loop .inv .1) (omega (arith, c .before .start-of .ensures .0, c .if1 .left)))
 
@@ -42,7 +37,7 @@ skip-spec =
     loop-holds
     start-of-requires
     returns
-    add-i
-    loop-less
+    (λ c. omega arith)
+    (λ c. omega arith)
     loop-again
     returns-2)

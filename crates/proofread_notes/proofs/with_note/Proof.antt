@@ -1,16 +1,11 @@
-use Rattle.rules.specs.Lists.{bit}
-use native.Mathlib.Omega.{arith}
-use Rattle.proofread_notes.proofs.KeyWords.{bit-more, not-here, high-more}
+-- `with_note` sets one bit, in the low or in the high word.
 use Prim.Native.Nat.{_+_}
+use native.Mathlib.Omega.{arith}
 use borrow.Author.Needs.{needs}
+use Rattle.rules.specs.Lists.{bit}
+use Rattle.proofread_notes.proofs.KeyWords.{bit-more, not-here, high-more}
 use Rattle.proofread_notes.proofs.with_note.Statement.{statement}
 use Rattle.proofread_notes.proofs.with_note.Tie as tie
-
-either-requires : tie.Need-either-requires
-either-requires c κs = search needs
-
-shl-t6 : tie.Need-shl-t6
-shl-t6 c = search needs
 
 returns : tie.Need-returns
 returns c = let a = c .before .before .before .args in
@@ -19,9 +14,6 @@ returns c = let a = c .before .before .before .args in
       low = λ k h. bit-more k (a .key) (a .x .low) (omega arith);
       high = λ k h. not-here (bit k (a .x .high)) (64 + k) (a .key) (λ e. omega arith);
     }
-
-shl-t9 : tie.Need-shl-t9
-shl-t9 c = search needs
 
 returns-2 : tie.Need-returns-2
 returns-2 c = let a = c .before .before .before .args in
@@ -32,4 +24,4 @@ returns-2 c = let a = c .before .before .before .args in
     }
 
 pub with-note-spec : {M : Type 1} → statement M
-with-note-spec = tie.close (tie.spec either-requires shl-t6 returns shl-t9 returns-2)
+with-note-spec = tie.close (tie.spec (λ c κs. search needs) (λ c. search needs) returns (λ c. search needs) returns-2)

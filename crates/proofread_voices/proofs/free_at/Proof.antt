@@ -1,4 +1,4 @@
-use borrow.Author.Needs.{needs}
+-- `free_at` asks only where a tie-out is open.
 use Rattle.proofread_voices.proofs.free_at.Statement.{statement}
 use Rattle.proofread_voices.proofs.free_at.Tie as tie
 

@@ -1,3 +1,4 @@
+-- `is_full` makes its tests in turn.
 use borrow.Author.Tests.{eq-eqb, ne-eqb}
 use Rattle.proofread_voices.proofs.is_full.Statement.{statement}
 use Rattle.proofread_voices.proofs.is_full.Tie as tie

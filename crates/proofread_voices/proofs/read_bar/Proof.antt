@@ -1,18 +1,16 @@
-use Rattle.rules.specs.Items.{Item, readItems}
-use lib.ListN.{take, drop}
+-- `read_bar` takes the bar's items and then asks whether they fill it.
 use mathlib.Core.List.{List}
-use Rattle.proofread_voices.proofs.Steps.{bar-fails, bar-full, full-code}
-use Rattle.proofread_voices.proofs.BarItems.{none-there}
 use mathlib.Core.Path.{refl, _∙_}
 use borrow.Author.Needs.{needs}
+use lib.ListN.{take, drop}
+use Rattle.rules.specs.Items.{Item, readItems}
+use Rattle.proofread_voices.proofs.Steps.{bar-fails, bar-full, full-code}
+use Rattle.proofread_voices.proofs.BarItems.{none-there}
 use Rattle.proofread_voices.proofs.read_bar.Statement.{statement}
 use Rattle.proofread_voices.proofs.read_bar.Tie as tie
 
 take-items-requires : tie.Need-take-items-requires
 take-items-requires c κs = let q = c .before .before .before .before .pre in (q .0, record { within = q .2; before = q .3; reached = q .4 }, q .1, q .5, q .6, q .8, q .9, q .10)
-
-is-full-requires : tie.Need-is-full-requires
-is-full-requires c κs = search needs
 
 same-length : tie.Need-same-length
 same-length c = c .before .before .before .before .take-items .ensures .hears .same .kept
@@ -36,4 +34,4 @@ returns-2 c = let a = c .before .before .before .before .before .before .before 
 pub read-bar-spec : {M : Type 1} → statement M
 read-bar-spec =
     tie.close
-    (tie.spec take-items-requires is-full-requires same-length returns same-length-2 returns-2)
+    (tie.spec take-items-requires (λ c κs. search needs) same-length returns same-length-2 returns-2)

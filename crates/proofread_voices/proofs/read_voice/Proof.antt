@@ -1,13 +1,14 @@
+-- `read_voice` goes along the bars. The loop's invariant: the walk is at a bar, the counts before it are summed, and what is still to be heard is the voice.
+use Prim.Native.Nat.{_+_, _-_, _*_}
+use mathlib.Core.Path.{ap, _∙_}
+use native.Mathlib.Omega.{arith}
 use borrow.Author.Needs.{needs}
-use Rattle.proofread_voices.proofs.Walks.{Along, along-start, along-end, along-fails, along-last, along-more, some-left, four-left, four-fit, items-fit, past-paced, voice-ends}
+use borrow.Author.Tests.{not-true, not-false}
 use Rattle.proofread_notes.proofs.Areas.{readable-same}
 use Rattle.bars.specs.declared.Walker.{Walker}
-use borrow.Author.Tests.{not-true, not-false}
-use mathlib.Core.Path.{ap, _∙_}
-use Prim.Native.Nat.{_+_, _-_, _*_}
-use native.Mathlib.Omega.{arith}
 use Rattle.bars.proofs.WalkLaws.{walking-sane, walking-ready}
 use Rattle.rules.specs.Bars.{mostBars}
+use Rattle.proofread_voices.proofs.Walks.{Along, along-start, along-end, along-fails, along-last, along-more, some-left, four-left, four-fit, items-fit, past-paced, voice-ends}
 use Rattle.proofread_voices.proofs.read_voice.Statement.{statement}
 use Rattle.proofread_voices.proofs.read_voice.Tie as tie
 
@@ -21,41 +22,14 @@ abbrev μ-loop : tie.MeasureT-loop
 first-bar-requires : tie.Need-first-bar-requires Inv-loop μ-loop
 first-bar-requires c κs = c .before .before .before .before .before .before .pre .1 .track
 
-new-voice-requires : tie.Need-new-voice-requires Inv-loop μ-loop
-new-voice-requires c κs = search needs
-
 loop-holds : tie.Need-loop-holds Inv-loop μ-loop
 loop-holds c = along-start (c .before .before .before .before .before .before .before .before .pre .3) (c .before .first-bar .ensures) (c .new-voice .ensures)
-
-mul-loop : tie.Need-mul-loop Inv-loop μ-loop
-mul-loop c = omega (arith, c .loop .inv .counted, c .before .before .before .before .before .before .before .before .before .pre .3 .few)
 
 next-bar-requires : tie.Need-next-bar-requires Inv-loop μ-loop
 next-bar-requires c κs = walking-sane (c .before .loop .inv .walking) (c .before .before .before .before .before .before .before .before .before .before .pre .1 .ticks)
 
-mul-sum-counts : tie.Need-mul-sum-counts Inv-loop μ-loop
-mul-sum-counts c = omega (arith, c .before .loop-test .taken, c .before .before .before .before .before .before .before .before .before .before .before .pre .3 .few)
-
 sum-counts-requires : tie.Need-sum-counts-requires Inv-loop μ-loop
 sum-counts-requires c κs = (omega (arith, four-left (c .before .before .loop .inv) (c .before .loop-test .taken), c .before .before .before .before .before .before .before .before .before .before .before .pre .2), c .before .before .before .before .before .before .before .before .before .before .before .pre .3 .few)
-
-add-here : tie.Need-add-here Inv-loop μ-loop
-add-here c = omega (arith, items-fit (c .before .before .before .loop .inv) (c .before .before .loop-test .taken) (c .before .before .before .before .before .before .before .before .before .before .before .before .pre .3) (c .before .before .before .before .before .before .before .before .before .before .before .before .pre .2), c .sum-counts .ensures .0, c .before .before .before .before .before .before .before .before .before .before .before .before .pre .3 .small)
-
-mul-count : tie.Need-mul-count Inv-loop μ-loop
-mul-count c = omega (arith, c .before .before .loop-test .taken, c .before .before .before .before .before .before .before .before .before .before .before .before .pre .3 .few)
-
-add-count : tie.Need-add-count Inv-loop μ-loop
-add-count c = omega (arith, four-left (c .before .before .before .loop .inv) (c .before .before .loop-test .taken), c .before .before .before .before .before .before .before .before .before .before .before .before .pre .2, c .before .before .before .before .before .before .before .before .before .before .before .before .pre .3 .few)
-
-mul-count-2 : tie.Need-mul-count-2 Inv-loop μ-loop
-mul-count-2 c = omega (arith, c .before .before .loop-test .taken, c .before .before .before .before .before .before .before .before .before .before .before .before .pre .3 .few)
-
-shared-slice-read-count : tie.Need-shared-slice-read-count Inv-loop μ-loop
-shared-slice-read-count c = omega (arith, four-left (c .before .before .before .before .loop .inv) (c .before .before .before .loop-test .taken), c .before .before .before .before .before .before .before .before .before .before .before .before .before .pre .2)
-
-cast-count : tie.Need-cast-count Inv-loop μ-loop
-cast-count c = omega (arith, c .shared-slice-known6 .given (4 * c .before .before .before .before .loop .bar + c .before .before .before .before .before .before .before .before .before .before .before .before .before .args .v))
 
 read-bar-requires : tie.Need-read-bar-requires Inv-loop μ-loop
 read-bar-requires c κs = let i = c .before .before .before .before .before .loop .inv in
@@ -69,17 +43,8 @@ same-length c = c .before .before .before .before .read-bar .ensures .same .kept
 returns : tie.Need-returns Inv-loop μ-loop
 returns c = along-fails (c .before .before .before .before .before .before .before .before .before .before .loop .inv) (c .before .before .before .before .before .before .before .before .before .loop-test .taken) (c .before .before .before .before .before .before .before .before .before .before .before .before .before .before .before .before .before .before .before .pre .0 .room) (c .before .before .before .before .before .before .before .before .before .before .before .before .before .before .before .before .before .before .before .pre .2) (rw (c .before .before .before .before .before .before .before .before .next-bar .ensures, c .before .before .before .before .before .before .before .sum-counts .ensures .0) at (c .before .before .before .before .read-bar .ensures)) (not-true (c .before .before .before .before .read-bar .result .ok) (c .if1 .taken))
 
-mul-sum-counts-2 : tie.Need-mul-sum-counts-2 Inv-loop μ-loop
-mul-sum-counts-2 c = omega (arith, c .before .before .before .before .before .before .before .before .before .loop-test .taken, c .before .before .before .before .before .before .before .before .before .before .before .before .before .before .before .before .before .before .before .pre .3 .few)
-
 sum-counts-requires-2 : tie.Need-sum-counts-requires-2 Inv-loop μ-loop
 sum-counts-requires-2 c κs = (four-left (c .before .before .before .before .before .before .before .before .before .before .loop .inv) (c .before .before .before .before .before .before .before .before .before .loop-test .taken), c .before .before .before .before .before .before .before .before .before .before .before .before .before .before .before .before .before .before .before .pre .3 .few)
-
-add-first : tie.Need-add-first Inv-loop μ-loop
-add-first c = omega (arith, four-fit (c .before .before .before .before .before .before .before .before .before .before .before .loop .inv) (c .before .before .before .before .before .before .before .before .before .before .loop-test .taken) (c .before .before .before .before .before .before .before .before .before .before .before .before .before .before .before .before .before .before .before .before .pre .3), c .sum-counts2 .ensures .0, c .before .before .before .before .before .before .before .before .before .before .before .before .before .before .before .before .before .before .before .before .pre .3 .small)
-
-add-bar : tie.Need-add-bar Inv-loop μ-loop
-add-bar c = omega (arith, some-left (c .before .before .before .before .before .before .before .before .before .before .before .loop .inv) (c .before .before .before .before .before .before .before .before .before .before .loop-test .taken), c .before .before .before .before .before .before .before .before .before .before .before .before .before .before .before .before .before .before .before .before .pre .3 .few)
 
 end-voice-requires : tie.Need-end-voice-requires Inv-loop μ-loop
 end-voice-requires c κs = let past = along-last (c .before .before .before .before .before .before .before .before .before .before .before .before .before .before .loop .inv) (c .before .before .before .before .before .before .before .before .before .before .before .before .before .loop-test .taken) (c .before .before .before .before .before .before .before .before .before .before .before .before .before .before .before .before .before .before .before .before .before .before .before .pre .0 .room) (c .before .before .before .before .before .before .before .before .before .before .before .before .before .before .before .before .before .before .before .before .before .before .before .pre .2) (rw (c .before .before .before .before .before .before .before .before .before .before .before .before .next-bar .ensures, c .before .before .before .before .before .before .before .before .before .before .before .sum-counts .ensures .0) at (c .before .before .before .before .before .before .before .before .read-bar .ensures)) (not-false (c .before .before .before .before .before .before .before .before .read-bar .result .ok) (c .before .before .before .before .if1 .left)) (rw (c .before .before .before .before .before .before .before .before .before .before .before .before .next-bar .ensures) at (c .before .if2 .taken)) in
@@ -93,9 +58,6 @@ returns-2 c = voice-ends (c .before .before .before .before .before .before .bef
 
 take-changes-requires : tie.Need-take-changes-requires Inv-loop μ-loop
 take-changes-requires c κs = rw (c .before .before .before .before .before .before .before .before .before .before .before .next-bar .ensures) (walking-ready (c .before .before .before .before .before .before .before .before .before .before .before .before .before .loop .inv .walking) (c .before .before .before .before .before .before .before .before .before .before .before .before .before .before .before .before .before .before .before .before .before .before .pre .1 .track) _ (c .before .before .before .before .before .before .before .before .before .before .before .before .before .before .before .before .before .before .before .before .before .before .pre .1 .end-fits) (rw (c .before .before .before .before .before .before .before .before .before .before .before .next-bar .ensures) at (c .if2 .left)))
-
-loop-less : tie.Need-loop-less Inv-loop μ-loop
-loop-less c = omega (arith, some-left (c .before .before .before .before .before .before .before .before .before .before .before .before .before .before .loop .inv) (c .before .before .before .before .before .before .before .before .before .before .before .before .before .loop-test .taken))
 
 loop-again : tie.Need-loop-again Inv-loop μ-loop
 loop-again c = rw (c .before .before .before .sum-counts2 .ensures .0) (along-more (c .before .before .before .before .before .before .before .before .before .before .before .before .before .before .loop .inv) (c .before .before .before .before .before .before .before .before .before .before .before .before .before .loop-test .taken) (c .before .before .before .before .before .before .before .before .before .before .before .before .before .before .before .before .before .before .before .before .before .before .before .pre .0 .room) (c .before .before .before .before .before .before .before .before .before .before .before .before .before .before .before .before .before .before .before .before .before .before .before .pre .2) (rw (c .before .before .before .before .before .before .before .before .before .before .before .before .next-bar .ensures, c .before .before .before .before .before .before .before .before .before .before .before .sum-counts .ensures .0) at (c .before .before .before .before .before .before .before .before .read-bar .ensures)) (not-false (c .before .before .before .before .before .before .before .before .read-bar .result .ok) (c .before .before .before .before .if1 .left)) (c .before .before .before .before .before .before .before .before .before .before .before .before .before .before .before .before .before .before .before .before .before .before .before .pre .1 .end-fits) (rw (c .before .before .before .before .before .before .before .before .before .before .before .before .next-bar .ensures) at (c .take-changes .ensures)) (rw (c .before .before .before .before .before .before .before .before .before .before .before .before .next-bar .ensures) at (c .before .if2 .left)))
@@ -116,30 +78,30 @@ read-voice-spec =
     Inv-loop
     μ-loop
     first-bar-requires
-    new-voice-requires
+    (λ c κs. search needs)
     loop-holds
-    mul-loop
+    (λ c. omega (arith, c .loop .inv .counted, c .before .before .before .before .before .before .before .before .before .pre .3 .few))
     next-bar-requires
-    mul-sum-counts
+    (λ c. omega (arith, c .before .loop-test .taken, c .before .before .before .before .before .before .before .before .before .before .before .pre .3 .few))
     sum-counts-requires
-    add-here
-    mul-count
-    add-count
-    mul-count-2
-    shared-slice-read-count
-    cast-count
+    (λ c. omega (arith, items-fit (c .before .before .before .loop .inv) (c .before .before .loop-test .taken) (c .before .before .before .before .before .before .before .before .before .before .before .before .pre .3) (c .before .before .before .before .before .before .before .before .before .before .before .before .pre .2), c .sum-counts .ensures .0, c .before .before .before .before .before .before .before .before .before .before .before .before .pre .3 .small))
+    (λ c. omega (arith, c .before .before .loop-test .taken, c .before .before .before .before .before .before .before .before .before .before .before .before .pre .3 .few))
+    (λ c. omega (arith, four-left (c .before .before .before .loop .inv) (c .before .before .loop-test .taken), c .before .before .before .before .before .before .before .before .before .before .before .before .pre .2, c .before .before .before .before .before .before .before .before .before .before .before .before .pre .3 .few))
+    (λ c. omega (arith, c .before .before .loop-test .taken, c .before .before .before .before .before .before .before .before .before .before .before .before .pre .3 .few))
+    (λ c. omega (arith, four-left (c .before .before .before .before .loop .inv) (c .before .before .before .loop-test .taken), c .before .before .before .before .before .before .before .before .before .before .before .before .before .pre .2))
+    (λ c. omega (arith, c .shared-slice-known6 .given (4 * c .before .before .before .before .loop .bar + c .before .before .before .before .before .before .before .before .before .before .before .before .before .args .v)))
     read-bar-requires
     same-length
     returns
-    mul-sum-counts-2
+    (λ c. omega (arith, c .before .before .before .before .before .before .before .before .before .loop-test .taken, c .before .before .before .before .before .before .before .before .before .before .before .before .before .before .before .before .before .before .before .pre .3 .few))
     sum-counts-requires-2
-    add-first
-    add-bar
+    (λ c. omega (arith, four-fit (c .before .before .before .before .before .before .before .before .before .before .before .loop .inv) (c .before .before .before .before .before .before .before .before .before .before .loop-test .taken) (c .before .before .before .before .before .before .before .before .before .before .before .before .before .before .before .before .before .before .before .before .pre .3), c .sum-counts2 .ensures .0, c .before .before .before .before .before .before .before .before .before .before .before .before .before .before .before .before .before .before .before .before .pre .3 .small))
+    (λ c. omega (arith, some-left (c .before .before .before .before .before .before .before .before .before .before .before .loop .inv) (c .before .before .before .before .before .before .before .before .before .before .loop-test .taken), c .before .before .before .before .before .before .before .before .before .before .before .before .before .before .before .before .before .before .before .before .pre .3 .few))
     end-voice-requires
     same-length-2
     returns-2
     take-changes-requires
-    loop-less
+    (λ c. omega (arith, some-left (c .before .before .before .before .before .before .before .before .before .before .before .before .before .before .loop .inv) (c .before .before .before .before .before .before .before .before .before .before .before .before .before .loop-test .taken)))
     loop-again
     end-voice-requires-2
     same-length-3

@@ -1,9 +1,10 @@
-use Rattle.proofread_voices.proofs.BarItems.{sum-start, sum-more}
+-- `sum_counts` adds count after count. The loop's invariant: the total is the sum of the first i.
+use Prim.Native.Nat.{ℕ, _+_, _-_, _*_, _≤_}
 use mathlib.Core.Path.{_≡_, ap, _∙_}
 use native.Mathlib.Omega.{arith}
-use Rattle.rules.specs.Lists.{sum}
 use lib.ListN.{take, drop}
-use Prim.Native.Nat.{ℕ, _+_, _-_, _*_, _≤_}
+use Rattle.rules.specs.Lists.{sum}
+use Rattle.proofread_voices.proofs.BarItems.{sum-start, sum-more}
 use Rattle.proofread_voices.proofs.sum_counts.Statement.{statement}
 use Rattle.proofread_voices.proofs.sum_counts.Tie as tie
 
@@ -16,27 +17,6 @@ abbrev μ-loop : tie.MeasureT-loop
 
 loop-holds : tie.Need-loop-holds Inv-loop μ-loop
 loop-holds c = (omega arith, sum-start (drop (c .args .from) (c .args .counts .now)), omega arith)
-
-add-total : tie.Need-add-total Inv-loop μ-loop
-add-total c = omega arith
-
-mul-total : tie.Need-mul-total Inv-loop μ-loop
-mul-total c = omega arith
-
-shared-slice-read-total : tie.Need-shared-slice-read-total Inv-loop μ-loop
-shared-slice-read-total c = omega arith
-
-cast-total : tie.Need-cast-total Inv-loop μ-loop
-cast-total c = omega (arith, c .shared-slice-known .given (c .before .before .before .args .from + c .before .before .loop .i))
-
-add-total-2 : tie.Need-add-total-2 Inv-loop μ-loop
-add-total-2 c = omega (arith, c .shared-slice-known .given (c .before .before .before .args .from + c .before .before .loop .i), c .before .before .loop .inv .2)
-
-add-i : tie.Need-add-i Inv-loop μ-loop
-add-i c = omega arith
-
-loop-less : tie.Need-loop-less Inv-loop μ-loop
-loop-less c = omega arith
 
 loop-again : tie.Need-loop-again Inv-loop μ-loop
 loop-again c = let a = c .before .before .before .args in let l = c .before .before .loop in (omega arith, omega (arith, l .inv .1, sum-more (a .counts .now) (a .from) (l .i) (omega arith)), omega (arith, c .shared-slice-known .given (a .from + l .i), l .inv .2))
@@ -51,12 +31,12 @@ sum-counts-spec =
     Inv-loop
     μ-loop
     loop-holds
-    add-total
-    mul-total
-    shared-slice-read-total
-    cast-total
-    add-total-2
-    add-i
-    loop-less
+    (λ c. omega arith)
+    (λ c. omega arith)
+    (λ c. omega arith)
+    (λ c. omega (arith, c .shared-slice-known .given (c .before .before .before .args .from + c .before .before .loop .i)))
+    (λ c. omega (arith, c .shared-slice-known .given (c .before .before .before .args .from + c .before .before .loop .i), c .before .before .loop .inv .2))
+    (λ c. omega arith)
+    (λ c. omega arith)
     loop-again
     returns)
