@@ -188,12 +188,6 @@ regroup a f k t m n found =
     voice v = says-and4 (says-and (says-flag (a v)) (says-flag (k v))) (says-flag (f v)) (says-flag (t v)) (says-and (says-flag (m v)) (says-flag (n v)))
 
 module _ (p g : ℕ) (notes : List RawNote) (bs : List Bar) (st : Staff) (h : Fours bs st) where
-  abbrev pub endOf : ℕ
-  endOf = lastBarEnd bs
-
-  abbrev pub snappedNotes : List RawNote
-  snappedNotes = map (snapped g) notes
-
   -- voice v's answer
   abbrev pub voice? : ℕ → List Played → Bool
   voice? v base = voiceOk? (lastBarEnd bs) (map (snapped g) notes) (voiceRun p (lastBarEnd bs) (map (snapped g) notes) v (silent base) bs st)

@@ -1,6 +1,6 @@
 -- Keys as bits of two words: a word by its bits, a word with one key more, a word that has all keys of another.
 use Prim.Native.Nat.{ℕ, zero, suc, _+_, _-_, _*_, _/_, _%_, _^_, _≤_, _<_, max}
-use mathlib.Core.Bool.{Bool, true, false}
+use mathlib.Core.Bool.{Bool}
 use mathlib.Core.Logic.{inl, inr}
 use mathlib.Core.Path.{_≡_, sym, ap, _∙_}
 use native.Mathlib.Nat.{one-mul, mod-eq-of-lt, div-one, zero-div, add-comm}
@@ -15,10 +15,6 @@ use Rattle.rules.specs.ProofReaderTests.{hasKey?}
 use Rattle.laws.specs.Says.{Says}
 use Rattle.laws.proofs.KeyBits.{bit-or, key-own, key-only}
 use Rattle.laws.proofs.Order.{by-eq}
-
-pub bit-flag : (b : Bool) → flag b ≤ 1
-bit-flag true = omega arith
-bit-flag false = omega arith
 
 -- bit k of key j alone
 bit-own : (j k : ℕ) → bit k (2 ^ j) ≡ flag (eqb j k)
@@ -37,9 +33,6 @@ shifted k h = rw one-mul (mod-eq-of-lt (pow-lt {j = 64} h))
 pub bit-more : (k j x : ℕ) → j < 64 → bit k (bitOr x (1 * 2 ^ j % 2 ^ 64)) ≡ max (bit k x) (flag (eqb j k))
 bit-more k j x h = rw (shifted j h) (bit-or k x (2 ^ j) ∙ ap (max (bit k x)) (bit-own j k))
 
-pub none-more : (x : ℕ) → x ≡ max x (flag false)
-none-more x = omega arith
-
 -- ---- a number by its bits
 
 bit-zero : (n : ℕ) → bit zero n ≡ n % 2
@@ -56,9 +49,6 @@ bits-same (suc n) a b ha hb h =
     let half : a / 2 ≡ b / 2 = bits-same n (a / 2) (b / 2) (omega arith) (omega arith) (λ k l. sym (bit-suc k a) ∙ h (suc k) (omega arith) ∙ bit-suc k b) in
     let odd : a % 2 ≡ b % 2 = sym (bit-zero a) ∙ h zero (omega arith) ∙ bit-zero b in
     omega arith
-
-bit-small : (k n : ℕ) → bit k n ≤ 1
-bit-small k n = omega arith
 
 -- one word has all keys of another
 pub says-covers : (a b : ℕ) → a < 2 ^ 64 → b < 2 ^ 64 → Says (eqb (bitOr a b) b) ((k : ℕ) → k < 64 → HasKey k a → HasKey k b)

@@ -18,14 +18,11 @@ use Rattle.proofread_notes.proofs.Areas.{same-self}
 use Rattle.proofread_items.specs.Playing.{Heard, run, tieOf, chordOf, heardOf, Closes, Holds, TakesAll}
 use Rattle.proofread_items.specs.declared.Voice.{Voice}
 use Rattle.laws.proofs.Order.{by-eq}
-use Rattle.proofread_voices.specs.Voices.{filled?, withOk, full?, ReadsBar, EndsVoice}
+use Rattle.proofread_voices.specs.Voices.{filled?, full?, ReadsBar, EndsVoice}
 
 and-false : (a : Bool) → (a && false) ≡ false
 and-false true = refl
 and-false false = refl
-
-ok-with : {a b : Heard} (t : Bool) → a ≡ b → withOk a t ≡ withOk b t
-ok-with t e = ap (λ (x : Heard). withOk x t) e
 
 -- the test at a bar's end is section 8's
 pub full-is : (p v : ℕ) (b : Bar) (is : List Item) → full? p v (b .start) (b .start + b .len) is ≡ filled? p v b is
