@@ -1,0 +1,69 @@
+-- `take_items` takes items one by one. The loop's invariant: what is left to be heard from here is what was left at the start.
+use Prim.Native.Nat.{_+_, _-_, _*_, _≤_}
+use mathlib.Core.Path.{_∙_}
+use native.Mathlib.Omega.{arith}
+use borrow.Author.Tests.{not-true, not-false}
+use Rattle.proofread_notes.proofs.Areas.{readable-same}
+use Rattle.proofread_items.proofs.Reading.{Reading, itemsOf, itemsLeft, reading-start, reading-more, reading-failed, arrays-start, arrays-next, arrays-end}
+use Rattle.proofread_items.proofs.take_items.Statement.{statement}
+use Rattle.proofread_items.proofs.take_items.Tie as tie
+
+abbrev Inv-loop : tie.InvT-loop
+Inv-loop work₀ n m g e p heads keys first count r₀ i₀ work r i =
+    Reading g n m e p (itemsOf heads keys first count) (itemsLeft heads keys first count i) work₀ work r₀ r × (i ≤ count) × (r .tick ≤ r₀ .tick + 3145680 * i)
+
+abbrev μ-loop : tie.MeasureT-loop
+μ-loop work₀ n m g e p heads keys first count r₀ i₀ work r i = count - i
+
+loop-holds : tie.Need-loop-holds Inv-loop μ-loop
+loop-holds c = let a = c .before .before .before .args in (arrays-start (a .heads .now) (a .keys .now) (a .first) (a .count) (reading-start (c .before .before .before .pre .2) (c .before .before .before .pre .1)), omega arith, omega arith)
+
+take-item-requires : tie.Need-take-item-requires Inv-loop μ-loop
+take-item-requires c κs = let l = c .before .before .before .before .before .before .loop in let q = c .before .before .before .before .before .before .before .before .before .before .pre in (readable-same (l .inv .0 .area) (q .0), l .inv .0 .paced, l .inv .0 .ok, q .3, c .before .item-of .ensures .1, omega (arith, l .inv .2, q .4, q .5))
+
+same-length : tie.Need-same-length Inv-loop μ-loop
+same-length c = c .before .before .before .before .take-item .ensures .hears .same .kept ∙ c .before .before .before .before .before .before .before .before .before .before .before .loop .inv .0 .area .kept
+
+returns : tie.Need-returns Inv-loop μ-loop
+returns c = let a = c .before .before .before .before .before .before .before .before .before .before .before .before .before .before .before .args in
+    let l = c .before .before .before .before .before .before .before .before .before .before .before .loop in
+    reading-failed (c .before .before .before .before .before .before .before .before .before .before .before .before .before .before .before .pre .0 .room) (arrays-next (a .heads .now) (a .keys .now) (a .first) (a .count) (c .before .before .before .before .before .before .item-of .result) (c .before .before .before .before .before .before .before .before .before .before .loop-test .taken) (c .before .before .before .before .before .before .before .before .before .before .before .before .before .before .before .pre .6) (c .before .before .before .before .before .before .before .before .before .before .before .before .before .before .before .pre .7) (c .before .before .before .before .before .before .item-of .ensures .0) (l .inv .0)) (c .before .before .before .before .take-item .ensures) (not-true (c .before .before .before .before .take-item .result .ok) (c .if1 .taken))
+
+loop-again : tie.Need-loop-again Inv-loop μ-loop
+loop-again c = let a = c .before .before .before .before .before .before .before .before .before .before .before .before .before .before .before .args in
+    let l = c .before .before .before .before .before .before .before .before .before .before .before .loop in
+    let ok = not-false (c .before .before .before .before .take-item .result .ok) (c .if1 .left) in
+    (reading-more (c .before .before .before .before .before .before .before .before .before .before .before .before .before .before .before .pre .0 .room) (arrays-next (a .heads .now) (a .keys .now) (a .first) (a .count) (c .before .before .before .before .before .before .item-of .result) (c .before .before .before .before .before .before .before .before .before .before .loop-test .taken) (c .before .before .before .before .before .before .before .before .before .before .before .before .before .before .before .pre .6) (c .before .before .before .before .before .before .before .before .before .before .before .before .before .before .before .pre .7) (c .before .before .before .before .before .before .item-of .ensures .0) (l .inv .0)) (c .before .before .before .before .take-item .ensures) ok, omega (arith, c .before .before .before .before .before .before .before .before .before .before .loop-test .taken), omega (arith, l .inv .2, c .before .before .before .before .take-item .ensures .short ok))
+
+same-length-2 : tie.Need-same-length-2 Inv-loop μ-loop
+same-length-2 c = c .before .loop .inv .0 .area .kept
+
+returns-2 : tie.Need-returns-2 Inv-loop μ-loop
+returns-2 c = let a = c .before .before .before .before .before .args in arrays-end (a .heads .now) (a .keys .now) (a .first) (a .count) (c .loop-test .left) (c .before .loop .inv .0)
+
+pub take-items-spec : {M : Type 1} → statement M
+take-items-spec =
+    tie.close
+    (tie.spec
+    Inv-loop
+    μ-loop
+    loop-holds
+    (λ c. omega arith)
+    (λ c. omega arith)
+    (λ c. omega arith)
+    (λ c. omega arith)
+    (λ c. omega arith)
+    (λ c. omega arith)
+    (λ c. omega arith)
+    (λ c. omega arith)
+    (λ c. omega arith)
+    (λ c. omega arith)
+    (λ c κs. omega arith)
+    take-item-requires
+    same-length
+    returns
+    (λ c. omega (arith, c .before .before .before .before .before .before .before .before .before .before .loop-test .taken, c .before .before .before .before .before .before .before .before .before .before .before .before .before .before .before .pre .5))
+    (λ c. omega (arith, c .before .before .before .before .before .before .before .before .before .before .loop-test .taken))
+    loop-again
+    same-length-2
+    returns-2)

@@ -1,0 +1,3 @@
+pub mod BarItems
+pub mod Steps
+pub mod Walks
