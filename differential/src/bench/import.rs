@@ -63,13 +63,13 @@ impl Import {
         assert_eq!(size.number, 0);
     }
 
-    fn automation(&mut self, part: u32) {
+    pub fn automation(&mut self, part: u32) {
         let (ticks, words) = (&mut self.ticks, &mut self.words);
         let counts = library::automation(&self.given, part, ticks, words);
         assert_eq!(counts.number, 0);
     }
 
-    fn diagnostics(&mut self) {
+    pub fn diagnostics(&mut self) {
         let [places, details] = &mut self.diagnostics;
         let count = library::diagnostics(&self.given, places, details, &mut self.work);
         assert_eq!(count.number, 0);

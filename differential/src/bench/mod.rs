@@ -37,13 +37,15 @@ const ABOUT: &str = "\
 Pieces of 10,000 bars of 4/4 at 480 ticks per quarter, events over all of it, one held note in each part. Milliseconds,
 the shortest of five runs; the reference's bars and imports of tempos are run once. Freeing what it answers is not timed.
 Library: whole calls from the piece's arrays, admission included; arrays lent once, before the time runs.
-Reference: the file as the stand-in parses it is given, but for `import`.
+Reference: the file as the stand-in parses it is given, but for diagnostics and imports.
 ns/event is the library's; ratio is the first time over the second, library over reference.";
 
 pub fn all() {
     println!("{ABOUT}\n");
     bars();
     staffs();
+    automation();
+    diagnostics();
     imports();
 }
 
@@ -113,6 +115,37 @@ fn staffs() {
                 whole
             });
             [ours, theirs, size, alone]
+        },
+    );
+}
+
+fn automation() {
+    table(
+        "the automation of part 0. Reference: its raw notes and auxiliary channels, then the four lists",
+        ["library", "reference"],
+        &PARTS,
+        |_, piece| {
+            let mut import = Import::of(piece);
+            [
+                shortest(5, || timed(|| import.automation(0))),
+                shortest(5, || times::automation(piece)),
+            ]
+        },
+    );
+}
+
+fn diagnostics() {
+    table(
+        "diagnostics. Reference: `loss_diagnostics`, which parses; last, parsing alone",
+        ["library", "reference", "parsing"],
+        &PARTS,
+        |_, piece| {
+            let mut import = Import::of(piece);
+            [
+                shortest(5, || timed(|| import.diagnostics())),
+                shortest(5, || times::diagnostics(piece)),
+                shortest(5, || times::parse(piece)),
+            ]
         },
     );
 }

@@ -1,7 +1,11 @@
 //! How long the reference takes. What it makes is freed after the time is taken.
 
 use super::transcribe::{MidiBar, apply_bar_changes, transcribe_track};
-use super::{RawNote, collect_key_changes, collect_meta_changes, midi_to_pitch, steps};
+use super::{
+    RawNote, collect_aftertouch, collect_control_changes, collect_key_changes,
+    collect_meta_changes, collect_pitch_bends, collect_program_changes, collect_raw_notes,
+    midi_to_pitch, recognized_auxiliary_channels, steps,
+};
 use crate::piece::Piece;
 use acorde_core::{Measure, TimeSignature};
 use midly::Smf;
@@ -52,6 +56,36 @@ pub fn staff(piece: &Piece, part: usize) -> (Duration, Duration) {
     let (before, (_, bars, parts)) = timed(|| timeline(&smf));
     let made = timed(|| transcribe_track(&parts[part], quarter, &bars, midi_to_pitch));
     (before + made.0, made.0)
+}
+
+/// The automation of the first part, the parsed file given: its notes are collected too, since they make it a part.
+pub fn automation(piece: &Piece) -> Duration {
+    let bytes = record(piece);
+    let smf = Smf::parse(&bytes).expect("a record is read");
+    let quarter = steps::ticks_per_quarter(&smf);
+    let made = timed(|| {
+        let mut tracks = smf.tracks.iter();
+        let track = tracks.find(|track| !collect_raw_notes(track).is_empty());
+        let track = track.expect("a part has notes");
+        let mirrored = recognized_auxiliary_channels(track);
+        let kept = |channel: u8| !mirrored[usize::from(channel)];
+        let mut bends = collect_pitch_bends(track, quarter);
+        bends.retain(|event| kept(event.channel));
+        let mut controllers = collect_control_changes(track, quarter);
+        controllers.retain(|event| kept(event.channel));
+        let mut programs = collect_program_changes(track, quarter);
+        programs.retain(|event| kept(event.channel));
+        let mut pressures = collect_aftertouch(track, quarter);
+        pressures.retain(|event| kept(event.channel));
+        (bends, controllers, programs, pressures)
+    });
+    made.0
+}
+
+/// The loss report, which parses the file.
+pub fn diagnostics(piece: &Piece) -> Duration {
+    let bytes = record(piece);
+    timed(|| super::loss_diagnostics(&bytes)).0
 }
 
 type Timeline = (Vec<(u64, u16)>, Vec<MidiBar>, Vec<Vec<RawNote>>);
