@@ -3,6 +3,8 @@
 
 pub mod answers;
 #[cfg(feature = "library")]
+pub mod arbitrary;
+#[cfg(feature = "library")]
 pub mod bench;
 pub mod checked;
 #[cfg(feature = "library")]

@@ -4,7 +4,7 @@ use differential::coverage::Report;
 use differential::examples::EXAMPLES;
 use differential::piece::Piece;
 #[cfg(feature = "library")]
-use differential::{bench, compare, shrink};
+use differential::{arbitrary, bench, compare, shrink};
 use differential::{generate, reference, text};
 use std::io::Read;
 use std::process::ExitCode;
@@ -15,9 +15,10 @@ const USAGE: &str = "usage: differential COMMAND
   examples             document 01's examples against the reference and, with the feature, the library
   generate SEED COUNT  the reference over generated pieces
   piece SEED INDEX     one generated piece
-  compare SEED COUNT [SECONDS]  the proved library against the reference (feature `library`)
-  large                         the same on the benchmark's pieces (feature `library`)
-  bench                         times of both (feature `library`)
+  compare SEED COUNT [SECONDS]    the proved library against the reference (feature `library`)
+  large                           the same on the benchmark's pieces (feature `library`)
+  arbitrary SEED COUNT [SECONDS]  the library's entries on arbitrary arrays (feature `library`)
+  bench                           times of both (feature `library`)
 A piece is three lines of decimals: sizes, deltas, words.";
 
 fn main() -> ExitCode {
@@ -44,6 +45,11 @@ fn main() -> ExitCode {
         ["compare", seed, count, ref seconds @ ..] if seconds.len() < 2 => {
             let limit = seconds.first().map_or(Ok(u64::MAX), |word| number(word));
             number(seed).and_then(|seed| compare(seed, number(count)?, limit?))
+        }
+        #[cfg(feature = "library")]
+        ["arbitrary", seed, count, ref seconds @ ..] if seconds.len() < 2 => {
+            let limit = seconds.first().map_or(Ok(u64::MAX), |word| number(word));
+            number(seed).and_then(|seed| arbitrary::run(seed, number(count)?, limit?))
         }
         _ => Err(USAGE.to_string()),
     };

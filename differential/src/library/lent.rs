@@ -76,9 +76,29 @@ impl<T: Cell> Lent<T> {
         self.holds(what, &[])
     }
 
+    /// At most the front was written: `count` elements, for which there is room.
+    pub fn written(&self, what: &str, count: usize) -> Checked {
+        let elements = self.elements();
+        if count > elements.len() {
+            let room = elements.len();
+            return Err(format!("{what}: {count} elements, where {room} were lent"));
+        }
+        self.is(what, |index| match index < count {
+            true => elements[index],
+            false => T::content(index),
+        })
+    }
+
     /// Zeros throughout.
     pub fn cleared(&self, what: &str) -> Checked {
         self.is(what, |_| T::ZERO)
+    }
+
+    /// Breaks the canary before (0) or behind (1) the array.
+    #[cfg(test)]
+    pub fn spoil_canary(&mut self, end: usize) {
+        let last = self.cells.len() - 1;
+        self.cells[end * last] = T::ZERO;
     }
 
     fn is(&self, what: &str, wanted: impl Fn(usize) -> T) -> Checked {

@@ -91,6 +91,11 @@ impl Given {
         self.deltas.holds("deltas given", &piece.deltas)?;
         self.words.holds("words given", &piece.words)
     }
+
+    #[cfg(test)]
+    pub fn arrays_mut(&mut self) -> [&mut Lent<u32>; 3] {
+        [&mut self.sizes, &mut self.deltas, &mut self.words]
+    }
 }
 
 /// Calls an entry: the piece's three arrays, plain values, then the arrays that it may write to.

@@ -1,0 +1,152 @@
+//! The library's entries in one form: rooms in, an outcome out.
+
+use crate::library::{self, Given, Lent};
+
+#[derive(Debug, Clone, Copy, PartialEq, Eq)]
+pub enum Call {
+    Head,
+    PartCount,
+    PartHead,
+    Bars,
+    StaffSize,
+    Engrave,
+    Automation,
+    Diagnostics,
+}
+
+/// The lengths lent: outputs in the entry's order, then the work area.
+#[derive(Debug, Clone, Default, PartialEq, Eq)]
+pub struct Rooms {
+    pub outputs: Vec<usize>,
+    pub work: usize,
+}
+
+pub enum Output {
+    Words(Lent<u32>),
+    Longs(Lent<u64>),
+}
+
+/// What a call left behind. A call without a work area has one of no elements.
+pub struct Outcome {
+    pub number: u32,
+    /// The answer's other fields.
+    pub fields: Vec<u64>,
+    pub outputs: Vec<Output>,
+    pub work: Lent<u64>,
+}
+
+impl Call {
+    pub const ALL: [Self; 8] = [
+        Self::Head,
+        Self::PartCount,
+        Self::PartHead,
+        Self::Bars,
+        Self::StaffSize,
+        Self::Engrave,
+        Self::Automation,
+        Self::Diagnostics,
+    ];
+
+    /// The refusals that the call may give.
+    pub fn numbers(self) -> &'static [u32] {
+        match self {
+            Self::Head | Self::PartCount => &[1, 2, 3, 4, 5, 6],
+            Self::PartHead => &[1, 2, 3, 4, 5, 6, 7],
+            Self::Bars => &[1, 2, 3, 4, 5, 6, 8],
+            Self::StaffSize | Self::Engrave | Self::Automation => &[1, 2, 3, 4, 5, 6, 7, 8],
+            Self::Diagnostics => &[1, 2, 3, 4, 5, 8],
+        }
+    }
+
+    pub fn outputs(self) -> usize {
+        match self {
+            Self::Head | Self::PartCount | Self::PartHead | Self::StaffSize => 0,
+            Self::Bars | Self::Automation | Self::Diagnostics => 2,
+            Self::Engrave => 3,
+        }
+    }
+
+    pub fn works(self) -> bool {
+        matches!(self, Self::StaffSize | Self::Engrave | Self::Diagnostics)
+    }
+
+    /// The elements of each output that an answer with these fields writes.
+    pub fn lengths(self, fields: &[u64]) -> Vec<usize> {
+        let times = |field: u64, factor| (field as usize).saturating_mul(factor);
+        match self {
+            Self::Head | Self::PartCount | Self::PartHead | Self::StaffSize => vec![],
+            Self::Bars | Self::Diagnostics => vec![times(fields[0], 1); 2],
+            Self::Engrave => {
+                let (bars, items) = (fields[0], fields[1]);
+                vec![times(bars, 4), times(items, 1), times(items, 2)]
+            }
+            Self::Automation => {
+                let sum = fields.iter().fold(0, |sum: u64, n| sum.saturating_add(*n));
+                vec![times(sum, 1); 2]
+            }
+        }
+    }
+
+    pub fn ask(self, given: &Given, part: u32, rooms: &Rooms) -> Outcome {
+        let longs = |index: usize| Lent::<u64>::new(rooms.outputs[index]);
+        let words = |index: usize| Lent::<u32>::new(rooms.outputs[index]);
+        let mut work = Lent::new(if self.works() { rooms.work } else { 0 });
+        let (number, fields, outputs) = match self {
+            Self::Head => {
+                let head = library::head(given);
+                let (key, fifths) = (head.has_key, head.fifths as u32);
+                let fields = [head.tempo, head.upper, head.lower, key, fifths, head.minor];
+                (head.number, fields.map(u64::from).to_vec(), vec![])
+            }
+            Self::PartCount => counted(library::part_count(given), vec![]),
+            Self::PartHead => {
+                let head = library::part_head(given, part);
+                let fields = [head.channel, head.program].map(u64::from);
+                (head.number, fields.to_vec(), vec![])
+            }
+            Self::Bars => {
+                let (mut starts, mut marks) = (longs(0), longs(1));
+                let answer = library::bars(given, &mut starts, &mut marks);
+                counted(answer, vec![Output::Longs(starts), Output::Longs(marks)])
+            }
+            Self::StaffSize => sized(library::staff_size(given, part, &mut work), vec![]),
+            Self::Engrave => {
+                let (mut counts, mut heads, mut keys) = (words(0), words(1), longs(2));
+                let (c, h, k) = (&mut counts, &mut heads, &mut keys);
+                let answer = library::engrave(given, part, c, h, k, &mut work);
+                let outputs = [Output::Words(counts), Output::Words(heads)];
+                let outputs = outputs.into_iter().chain([Output::Longs(keys)]);
+                sized(answer, outputs.collect())
+            }
+            Self::Automation => {
+                let (mut ticks, mut list) = (longs(0), words(1));
+                let answer = library::automation(given, part, &mut ticks, &mut list);
+                let fields = answer.counts.map(|count| count as u64).to_vec();
+                let outputs = vec![Output::Longs(ticks), Output::Words(list)];
+                (answer.number, fields, outputs)
+            }
+            Self::Diagnostics => {
+                let (mut places, mut details) = (longs(0), longs(1));
+                let answer = library::diagnostics(given, &mut places, &mut details, &mut work);
+                counted(answer, vec![Output::Longs(places), Output::Longs(details)])
+            }
+        };
+        Outcome {
+            number,
+            fields,
+            outputs,
+            work,
+        }
+    }
+}
+
+type Answered = (u32, Vec<u64>, Vec<Output>);
+
+fn counted(answer: library::Count, outputs: Vec<Output>) -> Answered {
+    (answer.number, vec![answer.count.into()], outputs)
+}
+
+fn sized(answer: library::StaffSize, outputs: Vec<Output>) -> Answered {
+    let fields = vec![answer.bars as u64, answer.items as u64];
+    (answer.number, fields, outputs)
+}
