@@ -1,6 +1,1 @@
-pub mod AutomationOutcomes
-pub mod BarOutcomes
-pub mod DiagnosticsOutcomes
-pub mod Door
-pub mod Heads
-pub mod StaffOutcomes
+pub mod Entered

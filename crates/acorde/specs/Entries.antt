@@ -13,11 +13,11 @@ use Rattle.rules.specs.Diagnostics.{Diagnostic, placeOf, detailOf}
 use Rattle.rules.specs.Items.{StaffArrays}
 use Rattle.rules.specs.Refusals.{Result, refused, given, answers, writes}
 use Rattle.changes.specs.declared.Head.{Head}
-use Rattle.acorde.specs.declared.entries.AcordeHead.{AcordeHead}
-use Rattle.acorde.specs.declared.entries.AcordeAutomation.{AcordeAutomation}
-use Rattle.acorde.specs.declared.entries.AcordeCount.{AcordeCount}
-use Rattle.acorde.specs.declared.entries.AcordePartHead.{AcordePartHead}
-use Rattle.acorde.specs.declared.entries.AcordeStaff.{AcordeStaff}
+use Rattle.acorde.specs.declared.AcordeHead.{AcordeHead}
+use Rattle.acorde.specs.declared.AcordeAutomation.{AcordeAutomation}
+use Rattle.acorde.specs.declared.AcordeCount.{AcordeCount}
+use Rattle.acorde.specs.declared.AcordePartHead.{AcordePartHead}
+use Rattle.acorde.specs.declared.AcordeStaff.{AcordeStaff}
 
 -- the entry of a head: has_key is 1 where there is a key; where there is none, fifths and minor are 0
 abbrev pub keyEntry : ℕ → rules.Meter → Option rules.Key → AcordeHead

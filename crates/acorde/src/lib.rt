@@ -1,321 +1,227 @@
-// The calls of the import. None asks anything of its caller: any arrays at all give an answer or one of document 01's numbers.
+// The calls for C: a number beside the values, 0 where the call is answered; beside a refusal every value is 0.
 ghost use mathlib.Core.Path.{_≡_};
-ghost use Rattle.rules.specs.Lists.{cleared};
+ghost use Rattle.rules.specs.Lists.{flag};
 ghost use Rattle.rules.specs.Piece.{piece};
-ghost use Rattle.rules.specs.Calls.{partCountCall, partHeadCall, barsCall, BarsCalled, automationCall, AutomationCalled, diagnosticsCall, DiagnosticsCalled, partSize, staffSizeCall, StaffSizeCalled, engraveCall, EngraveCalled};
-ghost use Rattle.engraver.specs.Parts.{answerOf};
-ghost use Prim.Native.Nat.{_≤_, _<_};
-ghost use Rattle.words.specs.Track.{Track, eventsOf};
-ghost use Rattle.bars.specs.Walk.{CanWalk};
+ghost use Rattle.rules.specs.Calls.{headCall, partCountCall, partHeadCall, barsCall, automationCall, diagnosticsCall, partSize, staffSizeCall, engraveCall};
 ghost use lib.ListN.{length};
-ghost use Rattle.acorde.specs.Answers.{Entered, HeadCalled, countAnswer, partHeadAnswer, barsAnswer, barsOutcome, automationAnswer, automationOutcome, diagnosticsAnswer, DiagnosticsWritten};
-
-mod entries;
-
-use automation::Counts;
+ghost use Rattle.acorde.specs.Entries.{headValues, headEntry, countEntry, partHeadEntry, BarsEntered, AutomationEntered, DiagnosticsEntered, StaffSizeEntered, EngraveEntered};
+use calls::AutomationAnswer;
+use calls::BarsAnswer;
+use calls::DiagnosticsAnswer;
+use calls::HeadAnswer;
+use calls::PartCountAnswer;
+use calls::PartHeadAnswer;
 use changes::Head;
-use changes::PartHead;
 use engraver::StaffAnswer;
 
-// A piece at the door: its number, the count of its parts, and the most note-ons in one track.
-struct Entry {
-    number: u32,
-    parts: usize,
-    most: usize,
+#[repr(C)]
+pub struct AcordeHead {
+    pub number: u32,
+    pub tempo: u32,
+    pub upper: u32,
+    pub lower: u32,
+    pub has_key: u32,
+    pub fifths: i32,
+    pub minor: u32,
 }
 
-// The first of 1 to 6 that applies, else 0 and the two counts.
-fn enter(sizes: &[u32], deltas: &[u32], words: &[u32]) -> Entry
-    ensures { λ r. ⌜ Entered (piece (now (sizes .entry)) (now (deltas .entry)) (now (words .entry))) r ⌝ }
+#[repr(C)]
+pub struct AcordeCount {
+    pub number: u32,
+    pub count: u32,
+}
+
+#[repr(C)]
+pub struct AcordePartHead {
+    pub number: u32,
+    pub channel: u32,
+    pub program: u32,
+}
+
+#[repr(C)]
+pub struct AcordeAutomation {
+    pub number: u32,
+    pub bends: usize,
+    pub controllers: usize,
+    pub programs: usize,
+    pub pressures: usize,
+}
+
+#[repr(C)]
+pub struct AcordeStaff {
+    pub number: u32,
+    pub bars: usize,
+    pub items: usize,
+}
+
+fn flag(b: bool) -> u32
+    ensures { λ r. ⌜ r ≡ flag b ⌝ }
 {
-    let number = piece::admission(sizes, deltas, words);
-    if number != 0 {
-        return Entry {
-            number,
-            parts: 0,
-            most: 0,
-        };
-    }
-    let counts = piece::survey(sizes, deltas, words);
-    if counts.parts == 0 {
-        return Entry {
-            number: 6,
-            parts: 0,
-            most: 0,
-        };
-    }
-    Entry {
+    if b { 1 } else { 0 }
+}
+
+fn head_values(h: Head) -> AcordeHead
+    ensures { λ r. ⌜ r ≡ headValues h ⌝ }
+{
+    AcordeHead {
         number: 0,
-        parts: counts.parts,
-        most: counts.most,
+        tempo: h.tempo,
+        upper: h.upper,
+        lower: h.lower,
+        has_key: flag(h.has_key),
+        fifths: h.fifths,
+        minor: flag(h.minor),
     }
 }
 
-pub enum HeadAnswer {
-    Refused(u32),
-    Given(Head),
-}
-
-// The head of a piece: tempo, meter and key. Refusals 1 to 6.
-pub fn head(sizes: &[u32], deltas: &[u32], words: &[u32]) -> HeadAnswer
-    ensures { λ r. ⌜ HeadCalled (piece (now (sizes .entry)) (now (deltas .entry)) (now (words .entry))) r ⌝ }
+#[no_mangle]
+pub extern "C" fn acorde_head(sizes: &[u32], deltas: &[u32], words: &[u32]) -> AcordeHead
+    ensures { λ r. ⌜ r ≡ headEntry (headCall (piece (now (sizes .entry)) (now (deltas .entry)) (now (words .entry)))) ⌝ }
 {
-    let entry = enter(sizes, deltas, words);
-    if entry.number != 0 {
-        return HeadAnswer::Refused(entry.number);
+    match calls::head(sizes, deltas, words) {
+        HeadAnswer::Refused(number) => AcordeHead {
+            number,
+            tempo: 0,
+            upper: 0,
+            lower: 0,
+            has_key: 0,
+            fifths: 0,
+            minor: 0,
+        },
+        HeadAnswer::Given(h) => head_values(h),
     }
-    let track = piece::first_track(sizes);
-    let from = track.from;
-    let to = track.to;
-    HeadAnswer::Given(changes::read_head(&deltas[from..to], &words[from..to]))
 }
 
-pub enum PartCountAnswer {
-    Refused(u32),
-    Given(u32),
-}
-
-// How many parts a piece has, 1 to 32. Refusals 1 to 6.
-pub fn part_count(sizes: &[u32], deltas: &[u32], words: &[u32]) -> PartCountAnswer
-    ensures { λ r. ⌜ countAnswer r ≡ partCountCall (piece (now (sizes .entry)) (now (deltas .entry)) (now (words .entry))) ⌝ }
+#[no_mangle]
+pub extern "C" fn acorde_part_count(sizes: &[u32], deltas: &[u32], words: &[u32]) -> AcordeCount
+    ensures { λ r. ⌜ r ≡ countEntry (partCountCall (piece (now (sizes .entry)) (now (deltas .entry)) (now (words .entry)))) ⌝ }
 {
-    let entry = enter(sizes, deltas, words);
-    if entry.number != 0 {
-        return PartCountAnswer::Refused(entry.number);
+    match calls::part_count(sizes, deltas, words) {
+        PartCountAnswer::Refused(number) => AcordeCount { number, count: 0 },
+        PartCountAnswer::Given(count) => AcordeCount { number: 0, count },
     }
-    PartCountAnswer::Given(entry.parts as u32)
 }
 
-pub enum PartHeadAnswer {
-    Refused(u32),
-    Given(PartHead),
-}
-
-// The head of a part, numbered from 0: channel and program. Refusals 1 to 7.
-pub fn part_head(sizes: &[u32], deltas: &[u32], words: &[u32], part: u32) -> PartHeadAnswer
-    ensures { λ r. ⌜ partHeadAnswer r ≡ partHeadCall (piece (now (sizes .entry)) (now (deltas .entry)) (now (words .entry))) part ⌝ }
-{
-    let entry = enter(sizes, deltas, words);
-    if entry.number != 0 {
-        return PartHeadAnswer::Refused(entry.number);
-    }
-    let k = part as usize;
-    if entry.parts <= k {
-        return PartHeadAnswer::Refused(7);
-    }
-    let track = piece::part_track(sizes, deltas, words, k);
-    let from = track.from;
-    let to = track.to;
-    PartHeadAnswer::Given(changes::extract_program(&words[from..to]))
-}
-
-// The most bars of an import.
-const MOST_BARS: usize = 10000;
-
-pub enum BarsAnswer {
-    Refused(u32),
-    Given(u32),
-}
-
-// The bars of a first track up to the end tick, counted before they are written.
-fn write_bars(
-    p: u64,
+#[no_mangle]
+pub extern "C" fn acorde_part_head(
+    sizes: &[u32],
     deltas: &[u32],
     words: &[u32],
-    end: u64,
-    starts: &mut [u64],
-    marks: &mut [u64],
-) -> BarsAnswer
-    requires { ⌜ CanWalk (now deltas) (now words) p end ⌝ }
-    ensures { λ r. ⌜ BarsCalled
-        (barsOutcome (eventsOf (now (deltas .entry)) (now (words .entry))) p end (length (now (starts .entry))) (length (now (marks .entry))))
-        (now (starts .entry)) (now (marks .entry)) (barsAnswer r) (now (starts .exit)) (now (marks .exit)) ⌝ }
+    part: u32,
+) -> AcordePartHead
+    ensures { λ r. ⌜ r ≡ partHeadEntry (partHeadCall (piece (now (sizes .entry)) (now (deltas .entry)) (now (words .entry))) part) ⌝ }
 {
-    let count = bars::count_bars(p, deltas, words, end, MOST_BARS);
-    if starts.len() < count {
-        return BarsAnswer::Refused(8);
+    match calls::part_head(sizes, deltas, words, part) {
+        PartHeadAnswer::Refused(number) => AcordePartHead {
+            number,
+            channel: 0,
+            program: 0,
+        },
+        PartHeadAnswer::Given(h) => AcordePartHead {
+            number: 0,
+            channel: h.channel,
+            program: h.program,
+        },
     }
-    if marks.len() < count {
-        return BarsAnswer::Refused(8);
-    }
-    bars::midi_bars(p, deltas, words, end, MOST_BARS, starts, marks);
-    BarsAnswer::Given(count as u32)
 }
 
-// The bars of a piece: how many, their starts and their marks. Refusals 1 to 6, 8.
-pub fn bars(
+#[no_mangle]
+pub extern "C" fn acorde_bars(
     sizes: &[u32],
     deltas: &[u32],
     words: &[u32],
     starts: &mut [u64],
     marks: &mut [u64],
-) -> BarsAnswer
-    ensures { λ r. ⌜ BarsCalled
+) -> AcordeCount
+    ensures { λ r. ⌜ BarsEntered
         (barsCall (piece (now (sizes .entry)) (now (deltas .entry)) (now (words .entry))) (length (now (starts .entry))) (length (now (marks .entry))))
-        (now (starts .entry)) (now (marks .entry)) (barsAnswer r) (now (starts .exit)) (now (marks .exit)) ⌝ }
+        (now (starts .entry)) (now (marks .entry)) r (now (starts .exit)) (now (marks .exit)) ⌝ }
 {
-    let entry = enter(sizes, deltas, words);
-    if entry.number != 0 {
-        return BarsAnswer::Refused(entry.number);
+    match calls::bars(sizes, deltas, words, starts, marks) {
+        BarsAnswer::Refused(number) => AcordeCount { number, count: 0 },
+        BarsAnswer::Given(count) => AcordeCount { number: 0, count },
     }
-    let p = piece::ticks_per_quarter(sizes);
-    let end = ends::end_of_piece(sizes, deltas, words);
-    let track = piece::first_track(sizes);
-    let from = track.from;
-    let to = track.to;
-    write_bars(p, &deltas[from..to], &words[from..to], end, starts, marks)
 }
 
-pub enum AutomationAnswer {
-    Refused(u32),
-    Given(Counts),
-}
-
-// The automation of a part's track, counted before it is written.
-fn write_automation(
-    p: u64,
-    deltas: &[u32],
-    words: &[u32],
-    ticks: &mut [u64],
-    out: &mut [u32],
-) -> AutomationAnswer
-    requires { ⌜ Track (now deltas) (now words) × (0 < p) × (p ≤ 65535) ⌝ }
-    ensures { λ r. ⌜ AutomationCalled
-        (automationOutcome p (eventsOf (now (deltas .entry)) (now (words .entry))) (length (now (ticks .entry))) (length (now (out .entry))))
-        (now (ticks .entry)) (now (out .entry)) (automationAnswer r) (now (ticks .exit)) (now (out .exit)) ⌝ }
-{
-    let dropped = automation::recognized_auxiliary_channels(deltas, words);
-    let counts = automation::count_automation(deltas, words, dropped);
-    let all = counts.bends + counts.controllers + counts.programs + counts.pressures;
-    if ticks.len() < all {
-        return AutomationAnswer::Refused(8);
-    }
-    if out.len() < all {
-        return AutomationAnswer::Refused(8);
-    }
-    automation::collect_automation(deltas, words, p, dropped, ticks, out);
-    AutomationAnswer::Given(counts)
-}
-
-// A part's automation: four counts, then ticks at 480 per quarter and words. Refusals 1 to 8.
-pub fn automation(
+#[no_mangle]
+pub extern "C" fn acorde_automation(
     sizes: &[u32],
     deltas: &[u32],
     words: &[u32],
     part: u32,
     ticks: &mut [u64],
     out: &mut [u32],
-) -> AutomationAnswer
-    ensures { λ r. ⌜ AutomationCalled
+) -> AcordeAutomation
+    ensures { λ r. ⌜ AutomationEntered
         (automationCall (piece (now (sizes .entry)) (now (deltas .entry)) (now (words .entry))) part (length (now (ticks .entry))) (length (now (out .entry))))
-        (now (ticks .entry)) (now (out .entry)) (automationAnswer r) (now (ticks .exit)) (now (out .exit)) ⌝ }
+        (now (ticks .entry)) (now (out .entry)) r (now (ticks .exit)) (now (out .exit)) ⌝ }
 {
-    let entry = enter(sizes, deltas, words);
-    if entry.number != 0 {
-        return AutomationAnswer::Refused(entry.number);
-    }
-    let wanted = part as usize;
-    if entry.parts <= wanted {
-        return AutomationAnswer::Refused(7);
-    }
-    let p = piece::ticks_per_quarter(sizes);
-    let track = piece::part_track(sizes, deltas, words, wanted);
-    let from = track.from;
-    let to = track.to;
-    write_automation(p, &deltas[from..to], &words[from..to], ticks, out)
-}
-
-// Zeroes a work area, the last thing that a call with one does.
-fn clear(work: &mut [u64])
-    ensures { λ _. ⌜ now (work .exit) ≡ cleared (now (work .entry)) ⌝ }
-{
-    let mut i = 0;
-    while i < work.len() {
-        work[i] = 0;
-        i += 1;
+    match calls::automation(sizes, deltas, words, part, ticks, out) {
+        AutomationAnswer::Refused(number) => AcordeAutomation {
+            number,
+            bends: 0,
+            controllers: 0,
+            programs: 0,
+            pressures: 0,
+        },
+        AutomationAnswer::Given(c) => AcordeAutomation {
+            number: 0,
+            bends: c.bends,
+            controllers: c.controllers,
+            programs: c.programs,
+            pressures: c.pressures,
+        },
     }
 }
 
-pub enum DiagnosticsAnswer {
-    Refused(u32),
-    Given(u32),
-}
-
-// The diagnostics, counted before they are written. What it leaves in the work area is not said.
-fn write_diagnostics(
+#[no_mangle]
+pub extern "C" fn acorde_diagnostics(
     sizes: &[u32],
     deltas: &[u32],
     words: &[u32],
     places: &mut [u64],
     details: &mut [u64],
     work: &mut [u64],
-) -> DiagnosticsAnswer
-    ensures { λ r. ⌜ DiagnosticsWritten
+) -> AcordeCount
+    ensures { λ r. ⌜ DiagnosticsEntered
         (diagnosticsCall (piece (now (sizes .entry)) (now (deltas .entry)) (now (words .entry)))
         (length (now (places .entry))) (length (now (details .entry))) (length (now (work .entry))))
-        (now (places .entry)) (now (details .entry)) (diagnosticsAnswer r) (now (places .exit)) (now (details .exit)) ⌝ }
+        (now (places .entry)) (now (details .entry)) (now (work .entry)) r (now (places .exit)) (now (details .exit)) (now (work .exit)) ⌝ }
 {
-    let number = piece::admission(sizes, deltas, words);
-    if number != 0 {
-        return DiagnosticsAnswer::Refused(number);
+    match calls::diagnostics(sizes, deltas, words, places, details, work) {
+        DiagnosticsAnswer::Refused(number) => AcordeCount { number, count: 0 },
+        DiagnosticsAnswer::Given(count) => AcordeCount { number: 0, count },
     }
-    let n = piece::survey(sizes, deltas, words).most;
-    if work.len() < 16 * n + 4096 {
-        return DiagnosticsAnswer::Refused(8);
-    }
-    let count = diagnostics::count_diagnostics(sizes, deltas, words, work, n);
-    if count == 0 {
-        return DiagnosticsAnswer::Given(0);
-    }
-    if places.len() < count {
-        return DiagnosticsAnswer::Refused(8);
-    }
-    if details.len() < count {
-        return DiagnosticsAnswer::Refused(8);
-    }
-    diagnostics::loss_diagnostics(sizes, deltas, words, places, details, work, n);
-    DiagnosticsAnswer::Given(count as u32)
 }
 
-// The diagnostics of a piece: how many, their places and their details. Refusals 1 to 5, 8.
-pub fn diagnostics(
-    sizes: &[u32],
-    deltas: &[u32],
-    words: &[u32],
-    places: &mut [u64],
-    details: &mut [u64],
-    work: &mut [u64],
-) -> DiagnosticsAnswer
-    ensures { λ r. ⌜ DiagnosticsCalled
-        (diagnosticsCall (piece (now (sizes .entry)) (now (deltas .entry)) (now (words .entry)))
-        (length (now (places .entry))) (length (now (details .entry))) (length (now (work .entry))))
-        (now (places .entry)) (now (details .entry)) (now (work .entry))
-        (diagnosticsAnswer r) (now (places .exit)) (now (details .exit)) (now (work .exit)) ⌝ }
-{
-    let answer = write_diagnostics(sizes, deltas, words, places, details, work);
-    clear(work);
-    answer
-}
-
-// The size of a part's staff, its bars and items: what engraving needs room for. Refusals 1 to 8.
-pub fn staff_size(
+#[no_mangle]
+pub extern "C" fn acorde_staff_size(
     sizes: &[u32],
     deltas: &[u32],
     words: &[u32],
     part: u32,
     work: &mut [u64],
-) -> StaffAnswer
-    ensures { λ r. ⌜ StaffSizeCalled
+) -> AcordeStaff
+    ensures { λ r. ⌜ StaffSizeEntered
         (staffSizeCall (piece (now (sizes .entry)) (now (deltas .entry)) (now (words .entry))) part (length (now (work .entry))))
-        (now (work .entry)) (answerOf r) (now (work .exit)) ⌝ }
+        (now (work .entry)) r (now (work .exit)) ⌝ }
 {
-    let answer = part_staffs::measure_part(sizes, deltas, words, part, work);
-    clear(work);
-    answer
+    match calls::staff_size(sizes, deltas, words, part, work) {
+        StaffAnswer::Refused(number) => AcordeStaff {
+            number,
+            bars: 0,
+            items: 0,
+        },
+        StaffAnswer::Given(s) => AcordeStaff {
+            number: 0,
+            bars: s.bars,
+            items: s.items,
+        },
+    }
 }
 
-// A part's staff: four counts a bar, and a head and two words of keys an item. Refusals 1 to 8.
-pub fn engrave(
+#[no_mangle]
+pub extern "C" fn acorde_engrave(
     sizes: &[u32],
     deltas: &[u32],
     words: &[u32],
@@ -324,15 +230,24 @@ pub fn engrave(
     heads: &mut [u32],
     keys: &mut [u64],
     work: &mut [u64],
-) -> StaffAnswer
-    ensures { λ r. ⌜ EngraveCalled
+) -> AcordeStaff
+    ensures { λ r. ⌜ EngraveEntered
         (partSize (piece (now (sizes .entry)) (now (deltas .entry)) (now (words .entry))) part)
         (engraveCall (piece (now (sizes .entry)) (now (deltas .entry)) (now (words .entry))) part
         (length (now (counts .entry))) (length (now (heads .entry))) (length (now (keys .entry))) (length (now (work .entry))))
         (now (counts .entry)) (now (heads .entry)) (now (keys .entry)) (now (work .entry))
-        (answerOf r) (now (counts .exit)) (now (heads .exit)) (now (keys .exit)) (now (work .exit)) ⌝ }
+        r (now (counts .exit)) (now (heads .exit)) (now (keys .exit)) (now (work .exit)) ⌝ }
 {
-    let answer = part_staffs::write_part(sizes, deltas, words, part, counts, heads, keys, work);
-    clear(work);
-    answer
+    match calls::engrave(sizes, deltas, words, part, counts, heads, keys, work) {
+        StaffAnswer::Refused(number) => AcordeStaff {
+            number,
+            bars: 0,
+            items: 0,
+        },
+        StaffAnswer::Given(s) => AcordeStaff {
+            number: 0,
+            bars: s.bars,
+            items: s.items,
+        },
+    }
 }

@@ -1,0 +1,21 @@
+-- `acorde::acorde_bars` meets its contract: the answer, case by case.
+use borrow.Author.Needs.{needs}
+use mathlib.Core.Path.{sym, ap, _∙_}
+use Rattle.calls.specs.Answers.{barsAnswer}
+use Rattle.acorde.proofs.Entered.{bars-entered}
+use Rattle.acorde.proofs.acorde_bars.Statement.{statement}
+use Rattle.acorde.proofs.acorde_bars.Tie as tie
+
+returns : tie.Need-returns
+returns c =
+    bars-entered (ap barsAnswer (sym (c .before .number .given .1))) (c .before .before .before .before .before .before .before .bars .ensures)
+
+returns-2 : tie.Need-returns-2
+returns-2 c =
+    bars-entered (ap barsAnswer (sym (c .before .count .given .1))) (c .before .before .before .before .before .before .before .bars .ensures)
+
+pub acorde-bars-spec : {M : Type 1} → statement M
+acorde-bars-spec =
+    tie.close
+    (tie.spec (λ c κs. search needs) (λ c. search needs) (λ c. search needs) (λ c. search needs) (λ c. search needs) returns
+    (λ c. search needs) (λ c. search needs) returns-2)
