@@ -5,13 +5,13 @@ use lib.IntN.{pos}
 use mathlib.Core.List.{List}
 use mathlib.Core.Path.{_≡_, refl, ap, _∙_}
 use Rattle.rules.specs.Automation.{AutomationLists}
-use Rattle.rules.specs.Calls.{BarLists, BarsCalled, StaffSize, StaffSizeCalled, EngraveCalled, AutomationCounts, AutomationCalled, DiagnosticsCalled}
+use Rattle.rules.specs.Calls.{BarLists, BarsCalled, StaffSize, StaffSizeCalled, EngraveCalled, AutomationCounts, AutomationCalled, DiagnosticsCalled, ProofReadCalled}
 use Rattle.rules.specs.Diagnostics.{Diagnostic}
 use Rattle.rules.specs.Items.{StaffArrays}
 use Rattle.rules.specs.Refusals.{Result, given}
 use Rattle.changes.specs.declared.Head.{Head}
 use Rattle.calls.specs.Answers.{headOf}
-use Rattle.acorde.specs.Entries.{headValues, headEntry, countEntry, BarsEntered, automationEntry, AutomationEntered, DiagnosticsEntered, staffEntry, StaffSizeEntered, EngraveEntered}
+use Rattle.acorde.specs.Entries.{headValues, headEntry, countEntry, BarsEntered, automationEntry, AutomationEntered, DiagnosticsEntered, staffEntry, StaffSizeEntered, EngraveEntered, readingEntry, ProofReadEntered}
 
 -- a key that is absent has its fields 0
 pub head-entry : (h : Head) → (h .«has_key» ≡ false → (h .fifths ≡ pos 0) × (h .minor ≡ false)) → headValues h ≡ headEntry (given (headOf h))
@@ -45,3 +45,7 @@ engrave-entered e o =
 pub size-entered : {r : Result StaffSize} {work work₁ : List ℕ} {a b : Result StaffSize} → a ≡ b → StaffSizeCalled r work b work₁
     → StaffSizeEntered r work (staffEntry a) work₁
 size-entered e o = record { answered = ap staffEntry (e ∙ o .answered); work = o .work }
+
+pub read-entered : {r : Result Bool} {work work₁ : List ℕ} {a b : Result Bool} → a ≡ b → ProofReadCalled r work b work₁
+    → ProofReadEntered r work (readingEntry a) work₁
+read-entered e o = record { answered = ap readingEntry (e ∙ o .answered); work = o .work }

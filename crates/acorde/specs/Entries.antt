@@ -1,5 +1,6 @@
 -- What the entries for C answer: a number, 0 where the call is answered, and the values. Beside a refusal every value is 0.
 use Prim.Native.Nat.{ℕ}
+use mathlib.Core.Bool.{Bool}
 use mathlib.Core.Option.{Option, none, some}
 use lib.IntN.{pos}
 use mathlib.Core.List.{List, map}
@@ -18,6 +19,7 @@ use Rattle.acorde.specs.declared.AcordeAutomation.{AcordeAutomation}
 use Rattle.acorde.specs.declared.AcordeCount.{AcordeCount}
 use Rattle.acorde.specs.declared.AcordePartHead.{AcordePartHead}
 use Rattle.acorde.specs.declared.AcordeStaff.{AcordeStaff}
+use Rattle.acorde.specs.declared.AcordeReading.{AcordeReading}
 
 -- the entry of a head: has_key is 1 where there is a key; where there is none, fifths and minor are 0
 abbrev pub keyEntry : ℕ → rules.Meter → Option rules.Key → AcordeHead
@@ -97,4 +99,13 @@ pub record EngraveEntered
   pub counts : counts₁ ≡ written (writes (λ (s : StaffArrays). s .counts) r) counts₀
   pub heads : heads₁ ≡ written (writes (λ (s : StaffArrays). s .heads) r) heads₀
   pub keys : keys₁ ≡ written (writes (λ (s : StaffArrays). s .keys) r) keys₀
+  pub work : work₁ ≡ cleared work₀
+
+abbrev pub readingEntry : Result Bool → AcordeReading
+readingEntry (refused n) = record { number = n; right = 0 }
+readingEntry (given b) = record { number = 0; right = flag b }
+
+-- after the entry of the proof-reading call of outcome r
+pub record ProofReadEntered (r : Result Bool) (work₀ : List ℕ) (answer : AcordeReading) (work₁ : List ℕ) : Type 0 where
+  pub answered : answer ≡ readingEntry r
   pub work : work₁ ≡ cleared work₀

@@ -2,9 +2,9 @@
 ghost use mathlib.Core.Path.{_≡_};
 ghost use Rattle.rules.specs.Lists.{flag};
 ghost use Rattle.rules.specs.Piece.{piece};
-ghost use Rattle.rules.specs.Calls.{headCall, partCountCall, partHeadCall, barsCall, automationCall, diagnosticsCall, partSize, staffSizeCall, engraveCall};
+ghost use Rattle.rules.specs.Calls.{headCall, partCountCall, partHeadCall, barsCall, automationCall, diagnosticsCall, partSize, staffSizeCall, engraveCall, proofReadCall};
 ghost use lib.ListN.{length};
-ghost use Rattle.acorde.specs.Entries.{headValues, headEntry, countEntry, partHeadEntry, BarsEntered, AutomationEntered, DiagnosticsEntered, StaffSizeEntered, EngraveEntered};
+ghost use Rattle.acorde.specs.Entries.{headValues, headEntry, countEntry, partHeadEntry, BarsEntered, AutomationEntered, DiagnosticsEntered, StaffSizeEntered, EngraveEntered, ProofReadEntered};
 use calls::AutomationAnswer;
 use calls::BarsAnswer;
 use calls::DiagnosticsAnswer;
@@ -13,6 +13,7 @@ use calls::PartCountAnswer;
 use calls::PartHeadAnswer;
 use changes::Head;
 use engraver::StaffAnswer;
+use proofread::ReadAnswer;
 
 #[repr(C)]
 pub struct AcordeHead {
@@ -52,6 +53,13 @@ pub struct AcordeStaff {
     pub number: u32,
     pub bars: usize,
     pub items: usize,
+}
+
+// right is 1 for yes, 0 for no.
+#[repr(C)]
+pub struct AcordeReading {
+    pub number: u32,
+    pub right: u32,
 }
 
 fn flag(b: bool) -> u32
@@ -248,6 +256,31 @@ pub extern "C" fn acorde_engrave(
             number: 0,
             bars: s.bars,
             items: s.items,
+        },
+    }
+}
+
+#[no_mangle]
+pub extern "C" fn acorde_proof_read(
+    sizes: &[u32],
+    deltas: &[u32],
+    words: &[u32],
+    part: u32,
+    counts: &[u32],
+    heads: &[u32],
+    keys: &[u64],
+    work: &mut [u64],
+) -> AcordeReading
+    ensures { λ r. ⌜ ProofReadEntered
+        (proofReadCall (piece (now (sizes .entry)) (now (deltas .entry)) (now (words .entry))) part
+        (record { counts = now (counts .entry); heads = now (heads .entry); keys = now (keys .entry) }) (length (now (work .entry))))
+        (now (work .entry)) r (now (work .exit)) ⌝ }
+{
+    match calls::proof_read(sizes, deltas, words, part, counts, heads, keys, work) {
+        ReadAnswer::Refused(number) => AcordeReading { number, right: 0 },
+        ReadAnswer::Given(right) => AcordeReading {
+            number: 0,
+            right: flag(right),
         },
     }
 }

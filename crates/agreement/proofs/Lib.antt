@@ -3,3 +3,5 @@ pub mod Engraved
 pub mod Heard
 pub mod Run
 pub mod VoiceBar
+pub mod Together
+pub mod Witnesses

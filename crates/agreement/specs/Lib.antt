@@ -1,2 +1,4 @@
 pub mod Demand
 pub mod Performance
+pub mod Together
+pub mod Witnesses

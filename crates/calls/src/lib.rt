@@ -2,8 +2,9 @@
 ghost use mathlib.Core.Path.{_≡_};
 ghost use Rattle.rules.specs.Lists.{cleared};
 ghost use Rattle.rules.specs.Piece.{piece};
-ghost use Rattle.rules.specs.Calls.{partCountCall, partHeadCall, barsCall, BarsCalled, automationCall, AutomationCalled, diagnosticsCall, DiagnosticsCalled, partSize, staffSizeCall, StaffSizeCalled, engraveCall, EngraveCalled};
+ghost use Rattle.rules.specs.Calls.{partCountCall, partHeadCall, barsCall, BarsCalled, automationCall, AutomationCalled, diagnosticsCall, DiagnosticsCalled, partSize, staffSizeCall, StaffSizeCalled, engraveCall, EngraveCalled, proofReadCall, ProofReadCalled};
 ghost use Rattle.engraver.specs.Parts.{answerOf};
+ghost use Rattle.proofread.specs.Answers.{readAnswer};
 ghost use Prim.Native.Nat.{_≤_, _<_};
 ghost use Rattle.words.specs.Track.{Track, eventsOf};
 ghost use Rattle.bars.specs.Walk.{CanWalk};
@@ -13,6 +14,7 @@ use automation::Counts;
 use changes::Head;
 use changes::PartHead;
 use engraver::StaffAnswer;
+use proofread::ReadAnswer;
 
 // A piece at the door: its number, the count of its parts, and the most note-ons in one track.
 struct Entry {
@@ -330,6 +332,27 @@ pub fn engrave(
         (answerOf r) (now (counts .exit)) (now (heads .exit)) (now (keys .exit)) (now (work .exit)) ⌝ }
 {
     let answer = part_staffs::write_part(sizes, deltas, words, part, counts, heads, keys, work);
+    clear(work);
+    answer
+}
+
+// Whether a part's staff is right, whatever stands in its arrays. Refusals 1 to 9.
+pub fn proof_read(
+    sizes: &[u32],
+    deltas: &[u32],
+    words: &[u32],
+    part: u32,
+    counts: &[u32],
+    heads: &[u32],
+    keys: &[u64],
+    work: &mut [u64],
+) -> ReadAnswer
+    ensures { λ r. ⌜ ProofReadCalled
+        (proofReadCall (piece (now (sizes .entry)) (now (deltas .entry)) (now (words .entry))) part
+        (record { counts = now (counts .entry); heads = now (heads .entry); keys = now (keys .entry) }) (length (now (work .entry))))
+        (now (work .entry)) (readAnswer r) (now (work .exit)) ⌝ }
+{
+    let answer = proofread::proof_read(sizes, deltas, words, part, counts, heads, keys, work);
     clear(work);
     answer
 }

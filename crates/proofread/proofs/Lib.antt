@@ -1,7 +1,1 @@
-pub mod Answers
-pub mod Hearing
-pub mod Measuring
-pub mod Points
-pub mod Shapes
-pub mod Shuffles
-pub mod Staffing
+pub mod Reading

@@ -1,0 +1,26 @@
+-- `acorde::acorde_proof_read` meets its contract: the answer, case by case.
+use mathlib.Core.Path.{sym, ap}
+use borrow.Author.Needs.{needs}
+use Rattle.proofread.specs.Answers.{readAnswer}
+use Rattle.acorde.proofs.Entered.{read-entered}
+use Rattle.acorde.proofs.acorde_proof_read.Statement.{statement}
+use Rattle.acorde.proofs.acorde_proof_read.Tie as tie
+
+returns : tie.Need-returns
+returns c = read-entered (ap readAnswer (sym (c .before .number .given .1))) (c .before .before .before .before .before .proof-read .ensures)
+
+returns-2 : tie.Need-returns-2
+returns-2 c = rw (c .flag .ensures) (read-entered (ap readAnswer (sym (c .before .before .right .given .1))) (c .before .before .before .before .before .before .proof-read .ensures))
+
+pub acorde-proof-read-spec : {M : Type 1} → statement M
+acorde-proof-read-spec =
+    tie.close
+    (tie.spec
+    (λ c κs. search needs)
+    (λ c. search needs)
+    (λ c. search needs)
+    (λ c κs. search needs)
+    (λ c. search needs)
+    returns
+    (λ c. search needs)
+    returns-2)

@@ -1,0 +1,7 @@
+pub mod Answers
+pub mod Hearing
+pub mod Measuring
+pub mod Points
+pub mod Shapes
+pub mod Shuffles
+pub mod Staffing
