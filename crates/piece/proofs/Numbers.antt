@@ -12,6 +12,7 @@ use lib.ListN.{length, getD, drop, drop-of-length-le}
 use lib.Seq.{drop-cons}
 use Rattle.rules.specs.Lists.{All}
 use Rattle.rules.specs.Piece.{Piece, division, sizesAgree, wellFormed}
+use Rattle.piece.specs.Bad.{bad}
 use Rattle.rules.specs.Refusals.{refused, Refusal, unless, firstNumber, eventRefusals, pieceRefusals, mostEvents, largestDelta}
 use Rattle.laws.specs.Admitted.{Passes, Admitted}
 use Rattle.laws.proofs.Refusals.{Agree, sizes-agree, admitted, Numbered, number-passes, number-refused}
@@ -26,9 +27,6 @@ pub disagrees : (x : Piece) → (Agree x → ⊥) → sizesAgree x ≡ false
 disagrees x h = ⊎-elim (λ t. absurd (h (sizes-agree x t))) (λ f. f) (by-bool (sizesAgree x))
 
 -- ---- the first bad event from event i on
-abbrev pub bad : List ℕ → List ℕ → ℕ → ℕ
-bad ds ws i = firstNumber (eventRefusals (drop i ds) (drop i ws))
-
 module _ (ds ws : List ℕ) (i : ℕ) (h : i < length ds) (k : i < length ws) where
   bad-cons : bad ds ws i ≡ cond (ltb largestDelta (getD ds i 0)) 4 (cond (not (wellFormed (getD ws i 0))) 5 (bad ds ws (i + 1)))
   unfolding firstNumber eventRefusals

@@ -1,16 +1,18 @@
 // A piece, as its three arrays sizes, deltas and words: its admission, ticks per quarter, first track and parts.
 use words::is_on;
+use words::take_apart;
 use words::well_formed;
-ghost use Prim.Native.Nat.{_≤_, _<_, max};
+ghost use Prim.Native.Nat.{_+_, _-_, _≤_, _<_, max};
 ghost use mathlib.Core.Bool.{true};
 ghost use mathlib.Core.List.{[]};
 ghost use mathlib.Core.Path.{_≡_};
-ghost use lib.ListN.{length, getD};
+ghost use lib.ListN.{length, getD, drop};
 ghost use Rattle.rules.specs.Lists.{keep, sum};
-ghost use Rattle.rules.specs.Piece.{piece, sizesAgree, ticksPerQuarter, isOn};
+ghost use Rattle.rules.specs.Piece.{piece, sizesAgree, ticksPerQuarter, isOn, wellFormed};
 ghost use Rattle.rules.specs.RawNotes.{parts, mostParts};
-ghost use Rattle.rules.specs.Refusals.{firstNumber, pieceRefusals, eventRefusals};
+ghost use Rattle.rules.specs.Refusals.{firstNumber, pieceRefusals, eventRefusals, largestDelta};
 ghost use Rattle.piece.specs.Spans.{IsSpan, FirstSpan, IsSurvey, OneMore};
+ghost use Rattle.piece.specs.Bad.{bad, FirstBad};
 
 // A track as a stretch of deltas and words: &deltas[from..to] and &words[from..to].
 pub struct Span {
@@ -79,13 +81,58 @@ fn sizes_agree(sizes: &[u32], deltas: &[u32], words: &[u32]) -> bool
     true
 }
 
-// 4 or 5 for the first bad event, a delta that is too large or a bad word; 0 where there is none.
-fn first_bad_event(deltas: &[u32], words: &[u32]) -> u32
-    requires { ⌜ length (now words) ≡ length (now deltas) ⌝ }
-    ensures { λ r. ⌜ r ≡ firstNumber (eventRefusals (now (deltas .entry)) (now (words .entry))) ⌝ }
+// The end of the block of events that begins at i: long pieces are looked through block by block.
+fn block_end(i: usize, len: usize) -> usize
+    requires { ⌜ i < len ⌝ }
+    ensures { λ r. ⌜ (i < r) × (r ≤ len) × (r ≤ i + 256) ⌝ }
 {
-    let mut i = 0;
-    while i < deltas.len() {
+    if len - i < 256 { len } else { i + 256 }
+}
+
+// 1 for most events: a delta that is not too large, and a note off, note on, key pressure or controller that is well formed.
+fn plain(delta: u32, word: u32) -> u32
+    ensures { λ r. ⌜ (r ≤ 1) × (r ≡ 1 → (delta ≤ largestDelta) × (wellFormed word ≡ true)) ⌝ }
+{
+    let w = take_apart(word);
+    if 268435455 < delta {
+        return 0;
+    }
+    if w.kind / 4 != 2 {
+        return 0;
+    }
+    if 15 < w.a {
+        return 0;
+    }
+    if 127 < w.b {
+        return 0;
+    }
+    if 127 < w.c {
+        return 0;
+    }
+    1
+}
+
+// How many events of a block are plain. Nothing in it is left early, so that many are looked at together.
+fn plain_events(deltas: &[u32], words: &[u32], from: usize, to: usize) -> usize
+    requires { ⌜ (length (now words) ≡ length (now deltas)) × (from ≤ to) × (to ≤ length (now deltas)) × (to ≤ from + 256) ⌝ }
+    ensures { λ r. ⌜ (r ≡ to - from → bad (now (deltas .entry)) (now (words .entry)) from ≡ bad (now (deltas .entry)) (now (words .entry)) to) ⌝ }
+{
+    let mut n: u32 = 0;
+    let mut i = from;
+    while i < to {
+        n += plain(deltas[i], words[i]);
+        i += 1;
+    }
+    n as usize
+}
+
+// 4 or 5 for the first bad event of a block; 0 where there is none.
+fn bad_event(deltas: &[u32], words: &[u32], from: usize, to: usize) -> u32
+    requires { ⌜ (length (now words) ≡ length (now deltas)) × (from ≤ to) × (to ≤ length (now deltas)) ⌝ }
+    ensures { λ r. ⌜ FirstBad (now (deltas .entry)) (now (words .entry)) from to r ⌝ }
+{
+    let mut i = from;
+    while i < to {
         if 268435455 < deltas[i] {
             return 4;
         }
@@ -93,6 +140,34 @@ fn first_bad_event(deltas: &[u32], words: &[u32]) -> u32
             return 5;
         }
         i += 1;
+    }
+    0
+}
+
+// The same, soon where all are plain.
+fn bad_in_block(deltas: &[u32], words: &[u32], from: usize, to: usize) -> u32
+    requires { ⌜ (length (now words) ≡ length (now deltas)) × (from ≤ to) × (to ≤ length (now deltas)) × (to ≤ from + 256) ⌝ }
+    ensures { λ r. ⌜ FirstBad (now (deltas .entry)) (now (words .entry)) from to r ⌝ }
+{
+    if plain_events(deltas, words, from, to) == to - from {
+        return 0;
+    }
+    bad_event(deltas, words, from, to)
+}
+
+// 4 or 5 for the first bad event, a delta that is too large or a bad word; 0 where there is none.
+fn first_bad_event(deltas: &[u32], words: &[u32]) -> u32
+    requires { ⌜ length (now words) ≡ length (now deltas) ⌝ }
+    ensures { λ r. ⌜ r ≡ firstNumber (eventRefusals (now (deltas .entry)) (now (words .entry))) ⌝ }
+{
+    let mut i = 0;
+    while i < deltas.len() {
+        let to = block_end(i, deltas.len());
+        let number = bad_in_block(deltas, words, i, to);
+        if number != 0 {
+            return number;
+        }
+        i = to;
     }
     0
 }
@@ -140,6 +215,22 @@ pub fn first_track(sizes: &[u32]) -> Span
     }
 }
 
+// How many words of a block are note-ons above velocity 0.
+fn ons_in_block(words: &[u32], from: usize, to: usize) -> u32
+    requires { ⌜ (from ≤ to) × (to ≤ length (now words)) × (to ≤ from + 256) ⌝ }
+    ensures { λ r. ⌜ (r ≤ to - from) × (r + length (keep isOn (drop to (now (words .entry)))) ≡ length (keep isOn (drop from (now (words .entry))))) ⌝ }
+{
+    let mut n: u32 = 0;
+    let mut i = from;
+    while i < to {
+        if is_on(words[i]) {
+            n += 1;
+        }
+        i += 1;
+    }
+    n
+}
+
 // How many of the words are note-ons above velocity 0.
 fn ons(words: &[u32]) -> usize
     ensures { λ r. ⌜ r ≡ length (keep isOn (now (words .entry))) ⌝ }
@@ -147,10 +238,9 @@ fn ons(words: &[u32]) -> usize
     let mut n = 0;
     let mut i = 0;
     while i < words.len() {
-        if is_on(words[i]) {
-            n += 1;
-        }
-        i += 1;
+        let to = block_end(i, words.len());
+        n += size(ons_in_block(words, i, to));
+        i = to;
     }
     n
 }

@@ -1,12 +1,11 @@
 -- `ons` counts note-ons. The invariant: the count so far and the note-ons of what is left make the whole.
-use Prim.Native.Nat.{_+_, _-_, _≤_}
-use mathlib.Core.Path.{sym, _∙_, ap, _≡_}
-use mathlib.Core.Logic.{⊎-elim}
+use Prim.Native.Nat.{_+_, _-_, _*_, _≤_}
+use mathlib.Core.Path.{ap, _≡_}
 use native.Mathlib.Omega.{arith}
 use lib.ListN.{length, drop}
-use Rattle.rules.specs.Lists.{flag, keep}
+use Rattle.rules.specs.Lists.{keep}
 use Rattle.rules.specs.Piece.{isOn}
-use Rattle.laws.proofs.Loops.{keep-left, keep-done}
+use Rattle.laws.proofs.Loops.{keep-done}
 use Rattle.piece.proofs.ons.Statement.{statement}
 use Rattle.piece.proofs.ons.Tie as tie
 
@@ -18,14 +17,10 @@ abbrev μ-loop : tie.MeasureT-loop
 
 loop-again : tie.Need-loop-again Inv-loop μ-loop
 loop-again c =
-    let start = c .before .before .before .before .before .before .args in
     let here = c .before .before .before .before .loop in
-    let more = keep-left isOn (start .words .now) (here .i) 0 (omega arith) in
-    let on = c .before .is-on .ensures in
-    ⊎-elim
-    (λ w. let one = ap flag (sym on ∙ w .0 .taken) in omega arith)
-    (λ w. let one = ap flag (sym on ∙ w .0 .left) in omega arith)
-    (c .if1 .came)
+    let block = c .before .ons-in-block .ensures in
+    let size = c .size .ensures in
+    (omega (arith, c .before .before .block-end .ensures), omega (arith, block .0, size, here .inv .1), omega (arith, block .1, size, here .inv .2))
 
 returns : tie.Need-returns Inv-loop μ-loop
 returns c =
@@ -40,11 +35,10 @@ ons-spec =
     Inv-loop
     μ-loop
     (λ c. omega arith)
-    (λ c. omega arith)
-    (λ c. omega arith)
     (λ c κs. omega arith)
-    (λ c. omega arith)
-    (λ c. omega arith)
-    (λ c. omega arith)
+    (λ c κs. (omega (arith, c .block-end .ensures), omega (arith, c .block-end .ensures), omega (arith, c .block-end .ensures)))
+    (λ c κs. omega arith)
+    (λ c. omega (arith, c .size .ensures, c .before .ons-in-block .ensures .0, c .before .before .before .before .loop .inv .1))
+    (λ c. omega (arith, c .before .before .block-end .ensures))
     loop-again
     returns)
