@@ -16,6 +16,7 @@ pub mod generate;
 pub mod library;
 pub mod packed;
 pub mod piece;
+pub mod reader;
 pub mod reference;
 pub mod refusals;
 pub mod shrink;
