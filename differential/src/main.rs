@@ -1,10 +1,11 @@
 //! The commands; see README.md.
 
+use differential::checked::named;
 use differential::coverage::Report;
 use differential::examples::EXAMPLES;
 use differential::piece::Piece;
 #[cfg(feature = "library")]
-use differential::{arbitrary, bench, compare, shrink};
+use differential::{arbitrary, bench, compare, proofread, shrink};
 use differential::{generate, reference, text};
 use std::io::Read;
 use std::process::ExitCode;
@@ -18,6 +19,7 @@ const USAGE: &str = "usage: differential COMMAND
   compare SEED COUNT [SECONDS]    the proved library against the reference (feature `library`)
   large                           the same on the benchmark's pieces (feature `library`)
   arbitrary SEED COUNT [SECONDS]  the library's entries on arbitrary arrays (feature `library`)
+  proofread SEED COUNT [SECONDS]  the library's proof-reader against the plain one (feature `library`)
   bench                           times of both (feature `library`)
 A piece is three lines of decimals: sizes, deltas, words.";
 
@@ -50,6 +52,12 @@ fn main() -> ExitCode {
         ["arbitrary", seed, count, ref seconds @ ..] if seconds.len() < 2 => {
             let limit = seconds.first().map_or(Ok(u64::MAX), |word| number(word));
             number(seed).and_then(|seed| arbitrary::run(seed, number(count)?, limit?))
+        }
+        #[cfg(feature = "library")]
+        ["proofread", seed, count, ref seconds @ ..] if seconds.len() < 2 => {
+            let limit = seconds.first().map_or(Ok(u64::MAX), |word| number(word));
+            let run = proofread::run::<proofread::Library>;
+            number(seed).and_then(|seed| run(seed, number(count)?, limit?))
         }
         _ => Err(USAGE.to_string()),
     };
@@ -120,12 +128,6 @@ fn run(seed: u64, count: u64) -> Result<(), String> {
     }
     print!("{report}");
     Ok(())
-}
-
-/// Does what may fail an assertion of this package; then the piece's number is the error.
-fn named<T>(seed: u64, index: u64, run: impl FnOnce() -> T) -> Result<T, String> {
-    let run = std::panic::AssertUnwindSafe(run);
-    std::panic::catch_unwind(run).map_err(|_| format!("at piece {seed} {index}"))
 }
 
 /// The library against the reference, until a piece differs or the time is over.
