@@ -1,6 +1,6 @@
 //! The library's entries in one form: rooms in, an outcome out.
 
-use crate::library::{self, Given, Lent};
+use crate::library::{self, Given, GivenStaff, Lent};
 
 #[derive(Debug, Clone, Copy, PartialEq, Eq)]
 pub enum Call {
@@ -10,6 +10,7 @@ pub enum Call {
     Bars,
     StaffSize,
     Engrave,
+    ProofRead,
     Automation,
     Diagnostics,
 }
@@ -36,13 +37,14 @@ pub struct Outcome {
 }
 
 impl Call {
-    pub const ALL: [Self; 8] = [
+    pub const ALL: [Self; 9] = [
         Self::Head,
         Self::PartCount,
         Self::PartHead,
         Self::Bars,
         Self::StaffSize,
         Self::Engrave,
+        Self::ProofRead,
         Self::Automation,
         Self::Diagnostics,
     ];
@@ -54,27 +56,33 @@ impl Call {
             Self::PartHead => &[1, 2, 3, 4, 5, 6, 7],
             Self::Bars => &[1, 2, 3, 4, 5, 6, 8],
             Self::StaffSize | Self::Engrave | Self::Automation => &[1, 2, 3, 4, 5, 6, 7, 8],
+            Self::ProofRead => &[1, 2, 3, 4, 5, 6, 7, 8, 9],
             Self::Diagnostics => &[1, 2, 3, 4, 5, 8],
         }
     }
 
     pub fn outputs(self) -> usize {
         match self {
-            Self::Head | Self::PartCount | Self::PartHead | Self::StaffSize => 0,
+            Self::Head | Self::PartCount | Self::PartHead => 0,
+            Self::StaffSize | Self::ProofRead => 0,
             Self::Bars | Self::Automation | Self::Diagnostics => 2,
             Self::Engrave => 3,
         }
     }
 
     pub fn works(self) -> bool {
-        matches!(self, Self::StaffSize | Self::Engrave | Self::Diagnostics)
+        match self {
+            Self::StaffSize | Self::Engrave | Self::ProofRead | Self::Diagnostics => true,
+            Self::Head | Self::PartCount | Self::PartHead | Self::Bars | Self::Automation => false,
+        }
     }
 
     /// The elements of each output that an answer with these fields writes.
     pub fn lengths(self, fields: &[u64]) -> Vec<usize> {
         let times = |field: u64, factor| (field as usize).saturating_mul(factor);
         match self {
-            Self::Head | Self::PartCount | Self::PartHead | Self::StaffSize => vec![],
+            Self::Head | Self::PartCount | Self::PartHead => vec![],
+            Self::StaffSize | Self::ProofRead => vec![],
             Self::Bars | Self::Diagnostics => vec![times(fields[0], 1); 2],
             Self::Engrave => {
                 let (bars, items) = (fields[0], fields[1]);
@@ -87,7 +95,8 @@ impl Call {
         }
     }
 
-    pub fn ask(self, given: &Given, part: u32, rooms: &Rooms) -> Outcome {
+    /// Asks about a piece's part; only the proof-reader is given the staff.
+    pub fn ask(self, given: &Given, part: u32, staff: &GivenStaff, rooms: &Rooms) -> Outcome {
         let longs = |index: usize| Lent::<u64>::new(rooms.outputs[index]);
         let words = |index: usize| Lent::<u32>::new(rooms.outputs[index]);
         let mut work = Lent::new(if self.works() { rooms.work } else { 0 });
@@ -117,6 +126,10 @@ impl Call {
                 let outputs = [Output::Words(counts), Output::Words(heads)];
                 let outputs = outputs.into_iter().chain([Output::Longs(keys)]);
                 sized(answer, outputs.collect())
+            }
+            Self::ProofRead => {
+                let reading = library::proof_read(given, part, staff, &mut work);
+                (reading.number, vec![reading.right.into()], vec![])
             }
             Self::Automation => {
                 let (mut ticks, mut list) = (longs(0), words(1));

@@ -50,7 +50,7 @@ fn turned_back(asked: &impl Asked, number: u32, parts: &[u32], another: &Staff) 
         for (staff, work) in [(another, 0), (another, 100_000), (&Staff::default(), 4_096)] {
             let reading = asked.reading(*part, staff, work)?;
             same("number, right", reading, [number, 0])
-                .map_err(|what| format!("part {part}, work {work}: {what}\n{}", lines(staff)))?;
+                .map_err(|what| format!("part {part}, work {work}: {what}\n{}", staff.print()))?;
         }
     }
     Ok(())
@@ -73,11 +73,11 @@ impl<A: Asked> Case<'_, A> {
         let even = !reader::uneven(&self.parts[part]);
         let wanted = if even { Answer::Yes } else { Answer::Uneven };
         same("plain reader", answer, wanted)
-            .map_err(|what| format!("part {part}, as engraved: {what}\n{}", lines(staff)))?;
+            .map_err(|what| format!("part {part}, as engraved: {what}\n{}", staff.print()))?;
         tally.engraved(even);
         let short = self.asked.reading(part as u32, staff, self.work - 1)?;
         same("number, right with a word too few", short, [8, 0])
-            .map_err(|what| format!("part {part}: {what}\n{}", lines(staff)))
+            .map_err(|what| format!("part {part}: {what}\n{}", staff.print()))
     }
 
     /// Some changed staffs, one where the answer is 9 anyway.
@@ -111,18 +111,8 @@ impl<A: Asked> Case<'_, A> {
             Ok(()) => Ok(answer),
             Err(why) => Err(format!(
                 "part {part}, {what}: {why}; the plain reader says {answer:?}\n{}",
-                lines(staff)
+                staff.print()
             )),
         }
     }
-}
-
-/// A staff's arrays, one a line.
-fn lines(staff: &Staff) -> String {
-    let Staff {
-        counts,
-        heads,
-        keys,
-    } = staff;
-    format!("counts {counts:?}\nheads {heads:x?}\nkeys {keys:x?}")
 }
