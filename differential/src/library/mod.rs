@@ -5,7 +5,7 @@ mod lent;
 use crate::checked::Checked;
 use crate::packed::Staff;
 use crate::piece::Piece;
-pub use lent::Lent;
+pub use lent::{Cell, Lent};
 
 #[repr(C)]
 #[derive(Debug, Clone, Copy, PartialEq, Eq, Default)]

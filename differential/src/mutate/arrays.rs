@@ -7,14 +7,20 @@ fn index(random: &mut Random, length: usize) -> Option<usize> {
     (length > 0).then(|| random.below(length as u64) as usize)
 }
 
+/// One count, or two so that their sum is right only modulo 2^32.
 pub fn count(random: &mut Random, staff: &mut Staff) -> Option<()> {
     let at = index(random, staff.counts.len())?;
     let count = &mut staff.counts[at];
-    *count = match random.below(4) {
-        0 => random.pick(&[u32::MAX, 1 << 31, 65_536, 4]),
-        1 => count.wrapping_sub(1),
-        _ => count.wrapping_add(1),
-    };
+    match random.below(5) {
+        0 => *count = random.pick(&[u32::MAX, 1 << 31, 65_536, 4]),
+        1 => *count = count.wrapping_sub(1),
+        2 => *count = count.wrapping_add(1),
+        _ => {
+            *count = count.wrapping_add(1 << 31);
+            let next = (at + 1) % staff.counts.len();
+            staff.counts[next] = staff.counts[next].wrapping_add(1 << 31);
+        }
+    }
     Some(())
 }
 
