@@ -61,6 +61,16 @@ pub fn split(random: &mut Random, sheet: &mut Sheet) -> Option<()> {
     Some(())
 }
 
+/// The same into ever shorter pieces, down to values that staffs do not use.
+pub fn crumbled(random: &mut Random, sheet: &mut Sheet) -> Option<()> {
+    let index = sheet.pick(random, |item| !item.has(DOT) && item.code() < 9)?;
+    let last = random.pick(&[9, 9, 9, 10]);
+    let shorter = sheet.items[index].code() + 1..=last;
+    let values: Vec<_> = shorter.chain([last]).collect();
+    rewrite(sheet, index, 1, &values);
+    Some(())
+}
+
 /// Two tied pieces of a bar, or two rests, into one, or with a part of the first given to the second.
 pub fn merged(random: &mut Random, sheet: &mut Sheet) -> Option<()> {
     let values = |index: usize| {

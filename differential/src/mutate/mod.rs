@@ -35,7 +35,7 @@ enum Change {
 use Change::{Arrays, Items, ItemsAlone, OtherPart, OtherPiece, Several};
 
 #[rustfmt::skip]
-pub const KINDS: [Kind; 48] = [
+pub const KINDS: [Kind; 49] = [
     Kind { name: "code", weight: 6, change: Items(fields::code) },
     Kind { name: "dot", weight: 2, change: Items(fields::dot) },
     Kind { name: "tie-in", weight: 3, change: Items(fields::tie_in) },
@@ -63,6 +63,7 @@ pub const KINDS: [Kind; 48] = [
     Kind { name: "voice emptied in a bar", weight: 3, change: Items(places::emptied) },
     Kind { name: "rests in an empty voice", weight: 3, change: Items(places::rested) },
     Kind { name: "split", weight: 5, change: Items(chords::split) },
+    Kind { name: "split to 128ths", weight: 2, change: Items(chords::crumbled) },
     Kind { name: "merged", weight: 5, change: Items(chords::merged) },
     Kind { name: "rest made a chord", weight: 5, change: Items(chords::sounded) },
     Kind { name: "chord made a rest", weight: 3, change: Items(chords::silenced) },

@@ -46,14 +46,26 @@ pub fn piece<A: Asked>(
 
 /// The number comes before 8 and 9, whatever the staff and the space.
 fn turned_back(asked: &impl Asked, number: u32, parts: &[u32], another: &Staff) -> Checked {
-    for part in parts {
+    for &part in parts {
         for (staff, work) in [(another, 0), (another, 100_000), (&Staff::default(), 4_096)] {
-            let reading = asked.reading(*part, staff, work)?;
-            same("number, right", reading, [number, 0])
-                .map_err(|what| format!("part {part}, work {work}: {what}\n{}", staff.print()))?;
+            gets(asked, part, "turned back", staff, work, [number, 0])?;
         }
     }
     Ok(())
+}
+
+/// A staff gets this number, and this yes or no.
+fn gets(
+    asked: &impl Asked,
+    part: u32,
+    what: &str,
+    staff: &Staff,
+    work: usize,
+    wanted: [u32; 2],
+) -> Checked {
+    let reading = asked.reading(part, staff, work);
+    let agree = reading.and_then(|reading| same("number, right", reading, wanted));
+    agree.map_err(|why| format!("part {part}, {what}, work {work}: {why}\n{}", staff.print()))
 }
 
 struct Case<'a, A> {
@@ -75,9 +87,8 @@ impl<A: Asked> Case<'_, A> {
         same("plain reader", answer, wanted)
             .map_err(|what| format!("part {part}, as engraved: {what}\n{}", staff.print()))?;
         tally.engraved(even);
-        let short = self.asked.reading(part as u32, staff, self.work - 1)?;
-        same("number, right with a word too few", short, [8, 0])
-            .map_err(|what| format!("part {part}: {what}\n{}", staff.print()))
+        let (part, short) = (part as u32, self.work - 1);
+        gets(&self.asked, part, "a word too few", staff, short, [8, 0])
     }
 
     /// Some changed staffs, one where the answer is 9 anyway.
@@ -105,14 +116,9 @@ impl<A: Asked> Case<'_, A> {
     /// What both say of a staff.
     fn both(&self, part: usize, what: &str, staff: &Staff, work: usize) -> Result<Answer, String> {
         let answer = reader::read(&self.parts[part], staff);
-        let reading = self.asked.reading(part as u32, staff, work);
-        let agree = reading.and_then(|reading| same("number, right", reading, answer.numbers()));
-        match agree {
-            Ok(()) => Ok(answer),
-            Err(why) => Err(format!(
-                "part {part}, {what}: {why}; the plain reader says {answer:?}\n{}",
-                staff.print()
-            )),
-        }
+        let what = format!("{what}, to the plain reader {answer:?}");
+        let wanted = answer.numbers();
+        gets(&self.asked, part as u32, &what, staff, work, wanted)?;
+        Ok(answer)
     }
 }
