@@ -14,8 +14,11 @@ pub mod examples;
 pub mod generate;
 #[cfg(feature = "library")]
 pub mod library;
+pub mod mutate;
 pub mod packed;
 pub mod piece;
+pub mod proofread;
+pub mod reader;
 pub mod reference;
 pub mod refusals;
 pub mod shrink;

@@ -1,8 +1,11 @@
 //! The commands; see README.md.
 
+use differential::checked::named;
 use differential::coverage::Report;
 use differential::examples::EXAMPLES;
 use differential::piece::Piece;
+#[cfg(feature = "library")]
+use differential::proofread::{self, Library};
 #[cfg(feature = "library")]
 use differential::{arbitrary, bench, compare, shrink};
 use differential::{generate, reference, text};
@@ -18,13 +21,13 @@ const USAGE: &str = "usage: differential COMMAND
   compare SEED COUNT [SECONDS]    the proved library against the reference (feature `library`)
   large                           the same on the benchmark's pieces (feature `library`)
   arbitrary SEED COUNT [SECONDS]  the library's entries on arbitrary arrays (feature `library`)
+  proofread SEED COUNT [SECONDS]  the library's proof-reader against the plain one (feature `library`)
   bench                           times of both (feature `library`)
 A piece is three lines of decimals: sizes, deltas, words.";
 
 fn main() -> ExitCode {
     let arguments: Vec<String> = std::env::args().skip(1).collect();
     let words: Vec<&str> = arguments.iter().map(String::as_str).collect();
-    let number = |word: &str| word.parse::<u64>().map_err(|_| USAGE.to_string());
     let result = match words[..] {
         ["show", ref file @ ..] if file.len() < 2 => show(file.first()),
         ["print", ref file @ ..] if file.len() < 2 => print(file.first()),
@@ -42,15 +45,11 @@ fn main() -> ExitCode {
         #[cfg(feature = "library")]
         ["large"] => bench::compared(),
         #[cfg(feature = "library")]
-        ["compare", seed, count, ref seconds @ ..] if seconds.len() < 2 => {
-            let limit = seconds.first().map_or(Ok(u64::MAX), |word| number(word));
-            number(seed).and_then(|seed| compare(seed, number(count)?, limit?))
-        }
+        ["compare", ref numbers @ ..] => limited(compare, numbers),
         #[cfg(feature = "library")]
-        ["arbitrary", seed, count, ref seconds @ ..] if seconds.len() < 2 => {
-            let limit = seconds.first().map_or(Ok(u64::MAX), |word| number(word));
-            number(seed).and_then(|seed| arbitrary::run(seed, number(count)?, limit?))
-        }
+        ["arbitrary", ref numbers @ ..] => limited(arbitrary::run, numbers),
+        #[cfg(feature = "library")]
+        ["proofread", ref numbers @ ..] => limited(proofread::run::<Library>, numbers),
         _ => Err(USAGE.to_string()),
     };
     match result {
@@ -59,6 +58,20 @@ fn main() -> ExitCode {
             eprintln!("{message}");
             ExitCode::FAILURE
         }
+    }
+}
+
+fn number(word: &str) -> Result<u64, String> {
+    word.parse().map_err(|_| USAGE.to_string())
+}
+
+/// A run of a seed, a count and perhaps a limit in seconds.
+#[cfg(feature = "library")]
+fn limited(run: fn(u64, u64, u64) -> Result<(), String>, numbers: &[&str]) -> Result<(), String> {
+    match *numbers {
+        [seed, count] => run(number(seed)?, number(count)?, u64::MAX),
+        [seed, count, seconds] => run(number(seed)?, number(count)?, number(seconds)?),
+        _ => Err(USAGE.to_string()),
     }
 }
 
@@ -120,12 +133,6 @@ fn run(seed: u64, count: u64) -> Result<(), String> {
     }
     print!("{report}");
     Ok(())
-}
-
-/// Does what may fail an assertion of this package; then the piece's number is the error.
-fn named<T>(seed: u64, index: u64, run: impl FnOnce() -> T) -> Result<T, String> {
-    let run = std::panic::AssertUnwindSafe(run);
-    std::panic::catch_unwind(run).map_err(|_| format!("at piece {seed} {index}"))
 }
 
 /// The library against the reference, until a piece differs or the time is over.

@@ -17,6 +17,18 @@ pub struct Staff {
     pub keys: Vec<u64>,
 }
 
+impl Staff {
+    /// The arrays, one a line; heads and keys in sixteens.
+    pub fn print(&self) -> String {
+        let Self {
+            counts,
+            heads,
+            keys,
+        } = self;
+        format!("counts {counts:?}\nheads {heads:x?}\nkeys {keys:x?}")
+    }
+}
+
 /// Section 9.
 #[derive(Debug, Clone, Default, PartialEq, Eq)]
 pub struct Automation {

@@ -1,7 +1,7 @@
 //! The library beside the reference, as far as a test's time goes; `compare` goes further.
 #![cfg(feature = "library")]
 
-use differential::{compare, generate};
+use differential::{compare, generate, proofread};
 
 #[test]
 fn generated_pieces_agree() {
@@ -9,4 +9,10 @@ fn generated_pieces_agree() {
         let piece = generate::numbered(1, index);
         assert_eq!(compare::piece(&piece), Ok(()), "piece 1 {index}");
     }
+}
+
+#[test]
+fn proof_readers_agree() {
+    let run = proofread::run::<proofread::Library>;
+    assert_eq!(run(1, 20_000, u64::MAX), Ok(()));
 }

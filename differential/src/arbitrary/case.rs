@@ -2,11 +2,13 @@
 
 use super::call::{Call, Outcome, Rooms};
 use super::tally::Tally;
-use super::{check, rooms};
+use super::{check, rooms, staffs};
 use crate::checked::{Checked, same};
 use crate::generate::Random;
-use crate::library::Given;
+use crate::library::{Given, GivenStaff};
+use crate::packed::Staff;
 use crate::piece::Piece;
+use crate::reader::Answer;
 use crate::refusals;
 
 const MOST_BARS: usize = 10_000;
@@ -15,6 +17,10 @@ pub struct Case {
     piece: Piece,
     given: Given,
     part: u32,
+    /// What the proof-reader is given, and what the plain one says of it, if the part is there.
+    staff: Staff,
+    given_staff: GivenStaff,
+    answer: Option<Answer>,
     /// 1 to 5; 1 to 6; 1 to 7.
     admission: Option<u8>,
     import: Option<u8>,
@@ -31,9 +37,13 @@ impl Case {
             Some(_) => (0, refusals::work(&Piece::of_tracks(1, &[]))),
         };
         let part = rooms::part(random, parts as u32);
+        let (staff, answer) = staffs::some(random, &piece, part);
         Self {
             given: Given::of(&piece),
             part,
+            given_staff: GivenStaff::of(&staff),
+            staff,
+            answer,
             admission,
             import: refusals::import(&piece),
             of_part: refusals::part(&piece, part),
@@ -48,7 +58,10 @@ impl Case {
             let lends = call.works() || call.outputs() > 0;
             let refusal = self.refusal(call);
             let fields = match refusal {
-                None => Some(self.call(call, &self.ample(call), 0, tally)?.fields),
+                None => {
+                    let ample = self.ample(call);
+                    Some(self.call(call, &ample, self.behind(call), tally)?.fields)
+                }
                 Some(number) if !lends => {
                     self.call(call, &Rooms::default(), number, tally)?;
                     None
@@ -68,7 +81,7 @@ impl Case {
             let rooms = rooms::some(random, &needed);
             let wanted = refusal.unwrap_or(match short(call, &rooms, &needed) {
                 true => 8,
-                false => 0,
+                false => self.behind(call),
             });
             let outcome = self.call(call, &rooms, wanted, tally)?;
             if let (0, Some(fields)) = (wanted, fields) {
@@ -83,10 +96,19 @@ impl Case {
     fn refusal(&self, call: Call) -> Option<u32> {
         let number = match call {
             Call::Head | Call::PartCount | Call::Bars => self.import,
-            Call::PartHead | Call::StaffSize | Call::Engrave | Call::Automation => self.of_part,
+            Call::PartHead | Call::StaffSize | Call::Engrave => self.of_part,
+            Call::ProofRead | Call::Automation => self.of_part,
             Call::Diagnostics => self.admission,
         };
         number.map(u32::from)
+    }
+
+    /// The number with enough room and no refusal before: 0, or 9.
+    fn behind(&self, call: Call) -> u32 {
+        match (call, self.answer) {
+            (Call::ProofRead, Some(answer)) => answer.numbers()[0],
+            _ => 0,
+        }
     }
 
     /// Rooms that are enough for certain, of a piece and a part that are there.
@@ -94,13 +116,14 @@ impl Case {
         let events = self.piece.words.len();
         let work = self.work;
         let outputs = match call {
-            Call::Head | Call::PartCount | Call::PartHead | Call::StaffSize => vec![],
+            Call::Head | Call::PartCount | Call::PartHead => vec![],
+            Call::StaffSize | Call::ProofRead => vec![],
             Call::Bars => vec![MOST_BARS; 2],
             Call::Automation => vec![events; 2],
             Call::Diagnostics => vec![events + 1; 2],
             Call::Engrave => {
                 let outputs = vec![];
-                let size = Call::StaffSize.ask(&self.given, self.part, &Rooms { outputs, work });
+                let size = self.ask(Call::StaffSize, &Rooms { outputs, work });
                 let mut lengths = call.lengths(&size.fields);
                 lengths.iter_mut().for_each(|length| *length += 7);
                 lengths
@@ -116,19 +139,39 @@ impl Case {
         wanted: u32,
         tally: &mut Tally,
     ) -> Result<Outcome, String> {
-        let outcome = call.ask(&self.given, self.part, rooms);
+        let outcome = self.ask(call, rooms);
         check::outcome(call, &outcome)
             .and_then(|()| same("number", outcome.number, wanted))
+            .and_then(|()| self.read(call, &outcome))
             .and_then(|()| self.given.holds(&self.piece))
+            .and_then(|()| self.given_staff.holds(&self.staff))
             .map_err(|what| self.failed(call, rooms, what))?;
-        tally.add(call, outcome.number);
+        tally.add(call, &outcome);
         Ok(outcome)
+    }
+
+    fn ask(&self, call: Call, rooms: &Rooms) -> Outcome {
+        call.ask(&self.given, self.part, &self.given_staff, rooms)
+    }
+
+    /// Beside number 0 the proof-reader says what the plain one does.
+    fn read(&self, call: Call, outcome: &Outcome) -> Checked {
+        match (call, outcome.number, self.answer) {
+            (Call::ProofRead, 0, Some(answer)) => {
+                same("yes or no", outcome.fields[0], answer.numbers()[1].into())
+            }
+            _ => Ok(()),
+        }
     }
 
     fn failed(&self, call: Call, rooms: &Rooms, what: String) -> String {
         let Rooms { outputs, work } = rooms;
         let (piece, part) = (self.piece.print(), self.part);
-        format!("{call:?}: {what}\n{piece}part {part}\noutputs {outputs:?}, work {work}")
+        let staff = match call {
+            Call::ProofRead => format!("\n{}", self.staff.print()),
+            _ => String::new(),
+        };
+        format!("{call:?}: {what}\n{piece}part {part}\noutputs {outputs:?}, work {work}{staff}")
     }
 }
 

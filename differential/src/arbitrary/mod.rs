@@ -1,4 +1,4 @@
-//! The library on arbitrary arrays: no answer is compared but its number.
+//! The library on arbitrary arrays: no answer is compared but its number, and the proof-reader's yes or no.
 //!
 //! Whatever a call is given, it must give a number that it may give, or a result, and leave every
 //! lent array as document 01 says. Numbers are those of `refusals`; whether 8 is due is told by the
@@ -9,6 +9,7 @@ mod call;
 mod case;
 mod check;
 mod rooms;
+mod staffs;
 mod tally;
 #[cfg(test)]
 mod tests;

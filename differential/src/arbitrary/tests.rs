@@ -2,7 +2,8 @@
 
 use super::call::{Call, Outcome, Output, Rooms};
 use super::{check, run};
-use crate::library::{Given, Lent};
+use crate::library::{Given, GivenStaff, Lent};
+use crate::packed::Staff;
 use crate::piece::Piece;
 
 /// An engraving of one bar and two items with a little room behind, all of it right.
@@ -71,6 +72,7 @@ fn numbers() {
         (Call::Bars, 7),
         (Call::Diagnostics, 6),
         (Call::PartHead, 8),
+        (Call::ProofRead, 10),
     ] {
         let outcome = refused(number);
         let what = check::outcome(call, &outcome).expect_err("nothing is reported");
@@ -173,6 +175,7 @@ fn library() {
     let mut outcome = Call::Bars.ask(
         &given,
         0,
+        &GivenStaff::of(&Staff::default()),
         &Rooms {
             outputs: vec![2, 0],
             work: 0,

@@ -1,6 +1,7 @@
 //! All calls that a whole import takes, into arrays lent once.
 
-use crate::library::{self, Given, Lent};
+use crate::library::{self, Given, GivenStaff, Lent, Reading, StaffSize};
+use crate::packed::Staff;
 use crate::piece::Piece;
 use crate::refusals;
 
@@ -51,7 +52,7 @@ impl Import {
         assert_eq!(size.number, 0);
     }
 
-    pub fn engrave(&mut self, part: u32) {
+    pub fn engrave(&mut self, part: u32) -> StaffSize {
         let size = library::engrave(
             &self.given,
             part,
@@ -61,6 +62,25 @@ impl Import {
             &mut self.work,
         );
         assert_eq!(size.number, 0);
+        size
+    }
+
+    /// A part's staff as it is engraved, lent to be read, and its items.
+    pub fn staff(&mut self, part: u32) -> (GivenStaff, usize) {
+        let StaffSize { bars, items, .. } = self.engrave(part);
+        let staff = Staff {
+            counts: self.counts.elements()[..4 * bars].to_vec(),
+            heads: self.heads.elements()[..items].to_vec(),
+            keys: self.keys.elements()[..2 * items].to_vec(),
+        };
+        (GivenStaff::of(&staff), items)
+    }
+
+    /// The staff is right.
+    pub fn proof_read(&mut self, part: u32, staff: &GivenStaff) {
+        let reading = library::proof_read(&self.given, part, staff, &mut self.work);
+        let (number, right) = (0, 1);
+        assert_eq!(reading, Reading { number, right });
     }
 
     pub fn automation(&mut self, part: u32) {

@@ -2,11 +2,13 @@
 
 mod import;
 mod pieces;
+mod readings;
 
 use crate::reference::times;
 use crate::{compare, piece::Piece};
 use import::Import;
 use pieces::Kind;
+use std::hint::black_box;
 use std::time::{Duration, Instant};
 
 const KINDS: [Kind; 4] = [Kind::Notes, Kind::Overlaps, Kind::Controllers, Kind::Tempos];
@@ -19,10 +21,12 @@ fn shortest(runs: usize, mut run: impl FnMut() -> Duration) -> f64 {
     times.fold(f64::INFINITY, f64::min)
 }
 
-fn timed(run: impl FnOnce()) -> Duration {
+fn timed<T>(run: impl FnOnce() -> T) -> Duration {
     let begun = Instant::now();
-    run();
-    begun.elapsed()
+    let answer = run();
+    let time = begun.elapsed();
+    black_box(answer);
+    time
 }
 
 /// The reference looks at every bar for every tempo change of every part: one run of those is enough.
@@ -44,6 +48,7 @@ pub fn all() {
     println!("{ABOUT}\n");
     bars();
     staffs();
+    readings::table();
     automation();
     diagnostics();
     imports();

@@ -3,8 +3,9 @@
 mod lent;
 
 use crate::checked::Checked;
+use crate::packed::Staff;
 use crate::piece::Piece;
-pub use lent::Lent;
+pub use lent::{Cell, Lent};
 
 #[repr(C)]
 #[derive(Debug, Clone, Copy, PartialEq, Eq, Default)]
@@ -48,6 +49,14 @@ pub struct StaffSize {
     pub items: usize,
 }
 
+/// `right` is 1 for yes and 0 for no.
+#[repr(C)]
+#[derive(Debug, Clone, Copy, PartialEq, Eq, Default)]
+pub struct Reading {
+    pub number: u32,
+    pub right: u32,
+}
+
 type Words = *const u32;
 
 #[rustfmt::skip]
@@ -64,6 +73,9 @@ unsafe extern "C" {
     fn acorde_engrave(s: Words, sn: usize, d: Words, dn: usize, w: Words, wn: usize, part: u32,
         counts: *mut u32, counts_n: usize, heads: *mut u32, heads_n: usize,
         keys: *mut u64, keys_n: usize, work: *mut u64, work_n: usize) -> StaffSize;
+    fn acorde_proof_read(s: Words, sn: usize, d: Words, dn: usize, w: Words, wn: usize, part: u32,
+        counts: Words, counts_n: usize, heads: Words, heads_n: usize,
+        keys: *const u64, keys_n: usize, work: *mut u64, work_n: usize) -> Reading;
     fn acorde_diagnostics(s: Words, sn: usize, d: Words, dn: usize, w: Words, wn: usize,
         places: *mut u64, places_n: usize, details: *mut u64, details_n: usize,
         work: *mut u64, work_n: usize) -> Count;
@@ -95,6 +107,30 @@ impl Given {
     #[cfg(test)]
     pub fn arrays_mut(&mut self) -> [&mut Lent<u32>; 3] {
         [&mut self.sizes, &mut self.deltas, &mut self.words]
+    }
+}
+
+/// A staff's three arrays, lent to be read.
+pub struct GivenStaff {
+    counts: Lent<u32>,
+    heads: Lent<u32>,
+    keys: Lent<u64>,
+}
+
+impl GivenStaff {
+    pub fn of(staff: &Staff) -> Self {
+        Self {
+            counts: Lent::of(&staff.counts),
+            heads: Lent::of(&staff.heads),
+            keys: Lent::of(&staff.keys),
+        }
+    }
+
+    /// The arrays are still those of the staff.
+    pub fn holds(&self, staff: &Staff) -> Checked {
+        self.counts.holds("counts given", &staff.counts)?;
+        self.heads.holds("heads given", &staff.heads)?;
+        self.keys.holds("keys given", &staff.keys)
     }
 }
 
@@ -150,6 +186,21 @@ pub fn engrave(
     work: &mut Lent<u64>,
 ) -> StaffSize {
     call!(acorde_engrave, given, [part], [counts, heads, keys, work])
+}
+
+pub fn proof_read(given: &Given, part: u32, staff: &GivenStaff, work: &mut Lent<u64>) -> Reading {
+    let (c, h, k) = (
+        staff.counts.elements(),
+        staff.heads.elements(),
+        staff.keys.elements(),
+    );
+    let (counts, heads, keys) = (c.as_ptr(), h.as_ptr(), k.as_ptr());
+    call!(
+        acorde_proof_read,
+        given,
+        [part, counts, c.len(), heads, h.len(), keys, k.len()],
+        [work]
+    )
 }
 
 pub fn diagnostics(
