@@ -22,7 +22,7 @@ const USAGE: &str = "usage: differential COMMAND
   large                           the same on the benchmark's pieces (feature `library`)
   arbitrary SEED COUNT [SECONDS]  the library's entries on arbitrary arrays (feature `library`)
   proofread SEED COUNT [SECONDS]  the library's proof-reader against the plain one (feature `library`)
-  bench                           times of both (feature `library`)
+  bench [TABLE ..]                times of both (feature `library`)
 A piece is three lines of decimals: sizes, deltas, words.";
 
 fn main() -> ExitCode {
@@ -38,8 +38,8 @@ fn main() -> ExitCode {
             Ok(())
         }),
         #[cfg(feature = "library")]
-        ["bench"] => {
-            bench::all();
+        ["bench", ref tables @ ..] => {
+            bench::tables(tables);
             Ok(())
         }
         #[cfg(feature = "library")]

@@ -95,14 +95,16 @@ impl Import {
         assert_eq!(count.number, 0);
     }
 
-    /// Heads, bars, each part's size, staff and automation, diagnostics.
-    pub fn all(&mut self) {
+    /// Heads, bars, each part's staff and automation, diagnostics; each part's size is asked first if `sized`.
+    pub fn all(&mut self, sized: bool) {
         assert_eq!(library::head(&self.given).number, 0);
         assert_eq!(library::part_count(&self.given).count, self.parts);
         self.bars();
         for part in 0..self.parts {
             assert_eq!(library::part_head(&self.given, part).number, 0);
-            self.staff_size(part);
+            if sized {
+                self.staff_size(part);
+            }
             self.engrave(part);
             self.automation(part);
         }

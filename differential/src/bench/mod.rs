@@ -44,14 +44,24 @@ Library: whole calls from the piece's arrays, admission included; arrays lent on
 Reference: the file as the stand-in parses it is given, but for diagnostics and imports.
 ns/event is the library's; ratio is the first time over the second, library over reference.";
 
-pub fn all() {
+/// The tables by name.
+const TABLES: [(&str, fn()); 6] = [
+    ("bars", bars),
+    ("staffs", staffs),
+    ("readings", readings::table),
+    ("automation", automation),
+    ("diagnostics", diagnostics),
+    ("imports", imports),
+];
+
+/// All tables, or those that are named.
+pub fn tables(names: &[&str]) {
     println!("{ABOUT}\n");
-    bars();
-    staffs();
-    readings::table();
-    automation();
-    diagnostics();
-    imports();
+    for (name, table) in TABLES {
+        if names.is_empty() || names.contains(&name) {
+            table();
+        }
+    }
 }
 
 /// Prints a row for each piece: the first time is the library's, the second the reference's.
@@ -157,15 +167,22 @@ fn diagnostics() {
 
 fn imports() {
     table(
-        "import: heads, bars, every part's size, staff and automation, diagnostics. Reference: `parse_midi` and \
-         `loss_diagnostics`, each of which parses; last, parsing twice alone",
-        ["library", "reference", "parsing twice"],
+        "import: heads, bars, every part's staff and automation, diagnostics. Reference: `parse_midi` and \
+         `loss_diagnostics`, each of which parses; then the library where it is asked every staff's size first, and \
+         parsing twice alone",
+        [
+            "library",
+            "reference",
+            "library with sizes",
+            "parsing twice",
+        ],
         &PARTS,
         |kind, piece| {
             let mut import = Import::of(piece);
             [
-                shortest(5, || timed(|| import.all())),
+                shortest(5, || timed(|| import.all(false))),
                 shortest(runs(kind), || times::import(piece)),
+                shortest(5, || timed(|| import.all(true))),
                 shortest(5, || times::parse(piece) * 2),
             ]
         },

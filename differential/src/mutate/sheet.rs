@@ -81,7 +81,10 @@ impl Sheet {
     pub fn packed(&self) -> Staff {
         let mut counts = vec![0; self.places];
         for item in &self.items {
-            counts[item.place] += 1;
+            // Counts that were cut before may have no such place: the arrays are malformed then anyway.
+            if let Some(count) = counts.get_mut(item.place) {
+                *count += 1;
+            }
         }
         Staff {
             counts,
