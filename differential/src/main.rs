@@ -1,6 +1,10 @@
 //! The commands; see README.md.
 
+#[cfg(feature = "library")]
+use differential::answers::Answers;
 use differential::checked::named;
+#[cfg(feature = "library")]
+use differential::compare::Rooms;
 use differential::coverage::Report;
 use differential::examples::EXAMPLES;
 use differential::piece::Piece;
@@ -18,7 +22,9 @@ const USAGE: &str = "usage: differential COMMAND
   examples             document 01's examples against the reference and, with the feature, the library
   generate SEED COUNT  the reference over generated pieces
   piece SEED INDEX     one generated piece
+  short SEED INDEX     one of the short pieces of `sweep`
   compare SEED COUNT [SECONDS]    the proved library against the reference (feature `library`)
+  sweep SEED COUNT [SECONDS]      short pieces in less time: most with exactly enough room alone (feature `library`)
   large                           the same on the benchmark's pieces (feature `library`)
   arbitrary SEED COUNT [SECONDS]  the library's entries on arbitrary arrays (feature `library`)
   proofread SEED COUNT [SECONDS]  the library's proof-reader against the plain one (feature `library`)
@@ -37,6 +43,10 @@ fn main() -> ExitCode {
             print!("{}", generate::numbered(seed, number(index)?).print());
             Ok(())
         }),
+        ["short", seed, index] => number(seed).and_then(|seed| {
+            print!("{}", generate::short(seed, number(index)?).print());
+            Ok(())
+        }),
         #[cfg(feature = "library")]
         ["bench", ref tables @ ..] => {
             bench::tables(tables);
@@ -46,6 +56,8 @@ fn main() -> ExitCode {
         ["large"] => bench::compared(),
         #[cfg(feature = "library")]
         ["compare", ref numbers @ ..] => limited(compare, numbers),
+        #[cfg(feature = "library")]
+        ["sweep", ref numbers @ ..] => limited(sweep, numbers),
         #[cfg(feature = "library")]
         ["arbitrary", ref numbers @ ..] => limited(arbitrary::run, numbers),
         #[cfg(feature = "library")]
@@ -135,18 +147,53 @@ fn run(seed: u64, count: u64) -> Result<(), String> {
     Ok(())
 }
 
-/// The library against the reference, until a piece differs or the time is over.
+/// The library against the reference, with what the pieces reached.
 #[cfg(feature = "library")]
 fn compare(seed: u64, count: u64, seconds: u64) -> Result<(), String> {
-    let begun = std::time::Instant::now();
     let mut report = Report::default();
+    let done = each(
+        generate::numbered,
+        [seed, count, seconds],
+        |_, piece, answers| {
+            report.add(piece, answers);
+            Rooms::All
+        },
+    )?;
+    print!("{report}");
+    println!("{done}");
+    Ok(())
+}
+
+/// Short pieces in less time: fifteen of sixteen are asked with exactly enough room alone, and nothing is counted.
+#[cfg(feature = "library")]
+fn sweep(seed: u64, count: u64, seconds: u64) -> Result<(), String> {
+    let done = each(
+        generate::short,
+        [seed, count, seconds],
+        |index, _, _| match index % 16 {
+            0 => Rooms::All,
+            _ => Rooms::Exact,
+        },
+    )?;
+    println!("{done}");
+    Ok(())
+}
+
+/// Compares piece by piece until one differs or the time is over.
+#[cfg(feature = "library")]
+fn each(
+    numbered: impl Fn(u64, u64) -> Piece,
+    [seed, count, seconds]: [u64; 3],
+    mut rooms: impl FnMut(u64, &Piece, &Answers) -> Rooms,
+) -> Result<String, String> {
+    let begun = std::time::Instant::now();
     let mut compared = 0;
     while compared < count && begun.elapsed().as_secs() < seconds {
-        let piece = generate::numbered(seed, compared);
+        let piece = numbered(seed, compared);
         let checked = named(seed, compared, || {
             let answers = reference::answers(&piece);
-            report.add(&piece, &answers);
-            compare::answers(&piece, &answers)
+            let rooms = rooms(compared, &piece, &answers);
+            compare::answers(&piece, &answers, rooms)
         })?;
         checked.map_err(|what| differing(&piece, format!("piece {seed} {compared}: {what}")))?;
         compared += 1;
@@ -154,10 +201,10 @@ fn compare(seed: u64, count: u64, seconds: u64) -> Result<(), String> {
             println!("{compared} pieces, {} s", begun.elapsed().as_secs());
         }
     }
-    print!("{report}");
     let seconds = begun.elapsed().as_secs();
-    println!("{compared} of {count} pieces of seed {seed} compared, all agree, {seconds} s");
-    Ok(())
+    Ok(format!(
+        "{compared} of {count} pieces of seed {seed} compared, all agree, {seconds} s"
+    ))
 }
 
 /// What is said of a piece on which the two differ: the smallest that was found, and why.

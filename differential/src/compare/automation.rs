@@ -7,7 +7,7 @@ use crate::{answers, packed};
 
 pub fn answered(case: &Case, part: u32, automation: &answers::Automation) -> Checked {
     let wanted = packed::automation(automation);
-    rooms([wanted.ticks.len(); 2], &wanted, |rooms, wanted| {
+    rooms(case, [wanted.ticks.len(); 2], &wanted, |rooms, wanted| {
         call(case, part, rooms, wanted)
     })
 }

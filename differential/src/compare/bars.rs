@@ -8,7 +8,7 @@ use crate::packed;
 
 pub fn answered(case: &Case, bars: &[Bar]) -> Checked {
     let wanted = packed::bars(bars);
-    rooms([bars.len(); 2], &wanted, |rooms, wanted| {
+    rooms(case, [bars.len(); 2], &wanted, |rooms, wanted| {
         call(case, rooms, wanted)
     })
 }

@@ -9,7 +9,9 @@ use crate::packed;
 pub fn answered(case: &Case, list: &[Diagnostic]) -> Checked {
     let wanted = packed::diagnostics(list);
     let needed = [list.len(), list.len(), case.work];
-    rooms(needed, &wanted, |rooms, wanted| call(case, rooms, wanted))
+    rooms(case, needed, &wanted, |rooms, wanted| {
+        call(case, rooms, wanted)
+    })
 }
 
 pub fn refused(case: &Case, number: u32) -> Checked {

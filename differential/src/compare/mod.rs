@@ -23,15 +23,25 @@ struct Case {
     given: Given,
     /// What a work area needs; where 1 to 5 turn the piece back, what the least piece needs.
     work: usize,
+    rooms: Rooms,
+}
+
+/// The rooms that each call is given.
+#[derive(Debug, Clone, Copy, PartialEq, Eq)]
+pub enum Rooms {
+    /// Those described above.
+    All,
+    /// Exactly enough.
+    Exact,
 }
 
 /// Everything that is compared.
 pub fn piece(piece: &Piece) -> Checked {
-    answers(piece, &reference::answers(piece))
+    answers(piece, &reference::answers(piece), Rooms::All)
 }
 
 /// The same, the reference's answers given.
-pub fn answers(piece: &Piece, answers: &Answers) -> Checked {
+pub fn answers(piece: &Piece, answers: &Answers, rooms: Rooms) -> Checked {
     let empty = Piece::of_tracks(1, &[]);
     let case = Case {
         given: Given::of(piece),
@@ -39,6 +49,7 @@ pub fn answers(piece: &Piece, answers: &Answers) -> Checked {
             None => refusals::work(piece),
             Some(_) => refusals::work(&empty),
         },
+        rooms,
     };
     match &answers.import {
         Ok(import) => imported(&case, import)?,
@@ -87,6 +98,7 @@ fn number<T>(wanted: Wanted<T>) -> u32 {
 
 /// A call with each of the rooms described above. `needed` has the list lengths of its arrays.
 fn rooms<T, const N: usize>(
+    case: &Case,
     needed: [usize; N],
     wanted: &T,
     call: impl Fn([usize; N], Wanted<T>) -> Checked,
@@ -95,12 +107,15 @@ fn rooms<T, const N: usize>(
         let with = |what| format!("{what}; arrays of {rooms:?} where {needed:?} are needed");
         call(rooms, wanted).map_err(with)
     };
+    call(needed, Ok(wanted))?;
+    if case.rooms == Rooms::Exact {
+        return Ok(());
+    }
     let mut spare = needed;
     for (index, room) in spare.iter_mut().enumerate() {
         *room += N - index;
     }
     call(spare, Ok(wanted))?;
-    call(needed, Ok(wanted))?;
     for index in 0..N {
         let mut rooms = needed;
         if rooms[index] > 0 {

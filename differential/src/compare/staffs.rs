@@ -29,11 +29,11 @@ pub fn answered(case: &Case, part: u32, measures: &[Measure]) -> Checked {
         heads,
         keys,
     } = &wanted.arrays;
-    rooms([case.work], &wanted, |[work], wanted| {
+    rooms(case, [case.work], &wanted, |[work], wanted| {
         size(case, part, work, wanted)
     })?;
     let needed = [counts.len(), heads.len(), keys.len(), case.work];
-    rooms(needed, &wanted, |rooms, wanted| {
+    rooms(case, needed, &wanted, |rooms, wanted| {
         engrave(case, part, rooms, wanted)
     })
 }

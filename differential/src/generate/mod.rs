@@ -21,6 +21,24 @@ pub fn numbered(seed: u64, index: u64) -> Piece {
     }
 }
 
+/// A short piece, number `index` of a seed: at most four tracks, none of more than a few dozen quarters. One in eight is damaged.
+pub fn short(seed: u64, index: u64) -> Piece {
+    let first = index.wrapping_mul(SHORT_TRIES);
+    let mut pieces = (0..SHORT_TRIES - 1).map(|next| numbered(seed, first.wrapping_add(next)));
+    pieces
+        .find(is_short)
+        .unwrap_or_else(|| numbered(seed, first.wrapping_add(SHORT_TRIES - 1)))
+}
+
+/// Of so many pieces the first short one is taken, else the last.
+const SHORT_TRIES: u64 = 16;
+
+fn is_short(piece: &Piece) -> bool {
+    let quarter = u64::from(piece.sizes.first().copied().unwrap_or(0).max(1));
+    let ticks: u64 = piece.deltas.iter().copied().map(u64::from).sum();
+    piece.sizes.len() <= 6 && piece.deltas.len() <= 200 && ticks <= 64 * quarter
+}
+
 /// A piece that 1 to 5 let pass.
 pub fn piece(random: &mut Random) -> Piece {
     let division = division(random);
