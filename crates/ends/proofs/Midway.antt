@@ -64,7 +64,7 @@ pub record Midway (ds ws : List ℕ) (x : Reached) (i : ℕ) : Type 0 where
   pub within : Within i x
 
 -- the events of well formed words
-timed-formed : (n t : ℕ) (ds ws : List ℕ) → All (λ w. wellFormed w ≡ true) ws → All (λ (e : Event). wellFormed (e .word) ≡ true) (timed n t ds ws)
+pub timed-formed : (n t : ℕ) (ds ws : List ℕ) → All (λ w. wellFormed w ≡ true) ws → All (λ (e : Event). wellFormed (e .word) ≡ true) (timed n t ds ws)
 unfolding timed
 timed-formed n t [] ws h = tt
 timed-formed n t (d ∷ ds) [] h = tt

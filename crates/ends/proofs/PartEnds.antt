@@ -1,6 +1,6 @@
 -- Between two tracks the largest end so far and that of the parts still to come are together the end of the piece.
 use Prim.Native.Nat.{ℕ, suc, _+_, _-_, _≤_, _<_, max}
-use mathlib.Core.Bool.{not}
+use mathlib.Core.Bool.{not, true, false}
 use mathlib.Core.List.{List, [], _∷_, map, flatMap, foldl, head?}
 use mathlib.Core.Logic.{inl, inr}
 use mathlib.Core.Option.{Option, none, some}
@@ -64,6 +64,13 @@ some-end (n ∷ ns) h = lt-ltb 0 (max (n .end) (largest (map (λ (n : RawNote). 
 pub has-end : (es : List Event) → hasNotes es ≡ ltb 0 (trackEnd es)
 unfolding trackEnd
 has-end es = has-notes es ∙ sym (some-end (rawNotes es) (notes-end es))
+
+-- a track that ends no later than those before it, and one without notes
+pub taken-covered : (s : Sofar) (e : ℕ) → ltb 0 e ≡ true → e ≤ s .end → record { parts = s .parts + 1; end = s .end } ≡ taken s e
+taken-covered s e t h = let same : max (s .end) e ≡ s .end = omega (arith, h) in rw (t, same)
+
+pub taken-none : (s : Sofar) (e : ℕ) → ltb 0 e ≡ false → s ≡ taken s e
+taken-none s e f = rw f
 
 -- ---- the parts to come
 

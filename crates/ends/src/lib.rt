@@ -3,7 +3,9 @@ ghost use Prim.Native.Nat.{_+_, _*_, _≤_, _<_, max};
 ghost use mathlib.Core.Bool.{true};
 ghost use mathlib.Core.Path.{_≡_};
 ghost use Rattle.rules.specs.Piece.{piece, wellFormed};
-ghost use Rattle.rules.specs.RawNotes.{mostParts};
+ghost use lib.ListN.{length};
+ghost use Rattle.rules.specs.Lists.{sum};
+ghost use Rattle.rules.specs.RawNotes.{mostParts, hasNotes};
 ghost use Rattle.rules.specs.Bars.{endOfPiece};
 ghost use Rattle.rules.specs.Refusals.{mostEvents, largestDelta};
 ghost use Rattle.laws.specs.Admitted.{Admitted};
@@ -132,6 +134,92 @@ fn taken(s: Sofar, e: u64) -> Sofar
     }
 }
 
+// The number, as a u64.
+fn long(x: u32) -> u64
+    ensures { λ r. ⌜ r ≡ x ⌝ }
+{
+    x as u64
+}
+
+// A track's last tick.
+fn last_tick(deltas: &[u32]) -> u64
+    requires { ⌜ length (now deltas) ≤ mostEvents ⌝ }
+    ensures { λ r. ⌜ r ≡ sum (now (deltas .entry)) ⌝ }
+{
+    let mut tick: u64 = 0;
+    let mut i = 0;
+    while i < deltas.len() {
+        tick += long(deltas[i]);
+        i += 1;
+    }
+    tick
+}
+
+// Whether no note starts at a track's last tick, so that none ends after it.
+fn quiet_end(deltas: &[u32], words: &[u32]) -> bool
+    requires { ⌜ Track (now deltas) (now words) ⌝ }
+    ensures { λ r. ⌜ (r ≡ true → trackEnd (eventsOf (now (deltas .entry)) (now (words .entry))) ≤ sum (now (deltas .entry))) ⌝ }
+{
+    let mut i = deltas.len();
+    while 0 < i {
+        i -= 1;
+        if words::is_on(words[i]) {
+            return false;
+        }
+        if 0 < deltas[i] {
+            return true;
+        }
+    }
+    true
+}
+
+// Whether it is soon seen that no note of a track ends after a tick.
+fn covered(deltas: &[u32], words: &[u32], end: u64) -> bool
+    requires { ⌜ Track (now deltas) (now words) ⌝ }
+    ensures { λ r. ⌜ (r ≡ true → trackEnd (eventsOf (now (deltas .entry)) (now (words .entry))) ≤ end) ⌝ }
+{
+    let last = last_tick(deltas);
+    if last < end {
+        return true;
+    }
+    if last == end {
+        return quiet_end(deltas, words);
+    }
+    false
+}
+
+// Whether a track has notes.
+fn has_notes(deltas: &[u32], words: &[u32]) -> bool
+    requires { ⌜ Track (now deltas) (now words) ⌝ }
+    ensures { λ r. ⌜ r ≡ hasNotes (eventsOf (now (deltas .entry)) (now (words .entry))) ⌝ }
+{
+    let mut i = 0;
+    while i < words.len() {
+        if words::is_on(words[i]) {
+            return true;
+        }
+        i += 1;
+    }
+    false
+}
+
+// One track more: gone through only where a note of it may end later than all before.
+fn with_track(s: Sofar, deltas: &[u32], words: &[u32]) -> Sofar
+    requires { ⌜ (s .parts < mostParts) × Track (now deltas) (now words) ⌝ }
+    ensures { λ r. ⌜ r ≡ taken s (trackEnd (eventsOf (now (deltas .entry)) (now (words .entry)))) ⌝ }
+{
+    if covered(deltas, words, s.end) {
+        if has_notes(deltas, words) {
+            return Sofar {
+                parts: s.parts + 1,
+                end: s.end,
+            };
+        }
+        return s;
+    }
+    taken(s, end_of_track(deltas, words))
+}
+
 fn wide(x: u32) -> usize
     ensures { λ r. ⌜ r ≡ x ⌝ }
 {
@@ -151,7 +239,7 @@ pub fn end_of_piece(sizes: &[u32], deltas: &[u32], words: &[u32]) -> u64
             return s.end;
         }
         let to = from + wide(sizes[i]);
-        s = taken(s, end_of_track(&deltas[from..to], &words[from..to]));
+        s = with_track(s, &deltas[from..to], &words[from..to]);
         from = to;
         i += 1;
     }

@@ -22,7 +22,7 @@ fits c =
     let here = c .before .before .before .before .before in
     omega (arith, c .wide .ensures, track-within (here .before .before .before .before .pre) (here .loop .inv) (omega arith))
 
-same-length : (c : tie.After-end-of-track-arg Inv-loop μ-loop)
+same-length : (c : tie.After-with-track-arg Inv-loop μ-loop)
     → length (c .before .before .before .before .before .before .before .before .before .before .args .words .now)
     ≡ length (c .before .before .before .before .before .before .before .before .before .before .args .deltas .now)
 same-length c = whole (c .before .before .before .before .before .before .before .before .before .before .pre) .same
@@ -35,16 +35,18 @@ returns c =
     let here = c .before .before .before in
     between-full (here .before .before .before .before .pre) (here .loop .inv) (c .if1 .taken)
 
-end-of-track-requires : tie.Need-end-of-track-requires Inv-loop μ-loop
-end-of-track-requires c κs =
-    let here = c .before .before .before .before .before .before .before in
-    track-here (here .before .before .before .before .pre) (here .loop .inv) _ (ap (_+_ _) (c .before .before .wide .ensures)) (omega arith)
+with-track-requires : tie.Need-with-track-requires Inv-loop μ-loop
+with-track-requires c κs =
+    let here = c .before .before .before .before .before .before .before in (
+      omega (arith, here .loop .inv .few, c .before .before .before .before .if1 .left),
+      track-here (here .before .before .before .before .pre) (here .loop .inv) _ (ap (_+_ _) (c .before .before .wide .ensures)) (omega arith),
+    )
 
 loop-again : tie.Need-loop-again Inv-loop μ-loop
 loop-again c =
-    let read = c .before .before .before .before in
+    let read = c .before .before .before in
     let here = read .before .before .before .before .before in
-    rw (c .taken .ensures, c .before .end-of-track .ensures)
+    rw (c .with-track .ensures)
     (between-next (here .before .before .before .before .pre) (here .loop .inv) _ (ap (_+_ _) (read .wide .ensures)) (omega arith) (read .before .before .if1 .left))
 
 returns-2 : tie.Need-returns-2 Inv-loop μ-loop
@@ -70,8 +72,7 @@ end-of-piece-spec =
     (λ c. omega (arith, fits (c .before)))
     (λ c. omega (arith, fits (c .before)))
     (λ c. omega (arith, fits (c .before), same-length c))
-    end-of-track-requires
-    (λ c κs. omega arith)
+    with-track-requires
     (λ c. omega arith)
     (λ c. omega arith)
     loop-again

@@ -1,0 +1,55 @@
+-- `has_notes` looks for a start. The invariant: there is one from event i on exactly if there is one at all.
+use Prim.Native.Nat.{_-_, _≤_, _<_}
+use mathlib.Core.Path.{_≡_, refl, sym, _∙_}
+use native.Mathlib.Omega.{arith}
+use lib.ListN.{length, drop, getD, drop-of-length-le}
+use Rattle.rules.specs.Lists.{any}
+use Rattle.rules.specs.Piece.{isOn}
+use Rattle.ends.proofs.Bounds.{notes-words, any-here}
+use Rattle.ends.proofs.has_notes.Statement.{statement}
+use Rattle.ends.proofs.has_notes.Tie as tie
+
+abbrev Inv-loop : tie.InvT-loop
+Inv-loop deltas words i₀ i = (i ≤ length words) × (any isOn (drop i words) ≡ any isOn words)
+
+abbrev μ-loop : tie.MeasureT-loop
+μ-loop deltas words i₀ i = length words - i
+
+returns : tie.Need-returns Inv-loop μ-loop
+returns c =
+    let start = c .before .before .before .before .before .before .before in
+    let here = c .before .before .before .before .loop in
+    let one = any-here (start .args .words .now) (here .i) (omega arith) in
+    sym (notes-words 0 0 (start .args .deltas .now) (start .args .words .now) (start .pre .same) ∙ sym (here .inv .1) ∙ one ∙ rw (sym (c .before .is-on .ensures) ∙ c .if1 .taken))
+
+loop-again : tie.Need-loop-again Inv-loop μ-loop
+loop-again c =
+    let start = c .before .before .before .before .before .before .before in
+    let here = c .before .before .before .before .loop in
+    let one = any-here (start .args .words .now) (here .i) (omega arith) in
+    let off = sym (c .before .is-on .ensures) ∙ c .if1 .left in
+    (omega arith, sym (rw off at one) ∙ here .inv .1)
+
+returns-2 : tie.Need-returns-2 Inv-loop μ-loop
+unfolding any
+returns-2 c =
+    let start = c .before .before .before .before in
+    let here = c .before .loop in
+    let all : length (start .args .words .now) ≤ here .i = omega arith in
+    sym (notes-words 0 0 (start .args .deltas .now) (start .args .words .now) (start .pre .same) ∙ sym (here .inv .1) ∙ rw (drop-of-length-le (start .args .words .now) all))
+
+pub has-notes-spec : {M : Type 1} → statement M
+has-notes-spec =
+    tie.close
+    (tie.spec
+    Inv-loop
+    μ-loop
+    (λ c. (omega arith, refl))
+    (λ c. omega arith)
+    (λ c. omega arith)
+    (λ c κs. omega arith)
+    returns
+    (λ c. omega arith)
+    (λ c. omega arith)
+    loop-again
+    returns-2)
