@@ -8,7 +8,11 @@ use Rattle.rules.specs.Automation.{AutomationLists}
 use Rattle.rules.specs.Calls.{BarLists, BarsCalled, StaffSize, StaffSizeCalled, EngraveCalled, AutomationCounts, AutomationCalled, DiagnosticsCalled, ProofReadCalled}
 use Rattle.rules.specs.Diagnostics.{Diagnostic}
 use Rattle.rules.specs.Items.{StaffArrays}
-use Rattle.rules.specs.Refusals.{Result, given}
+use Rattle.rules.specs.Refusals.{Result, refused, given}
+use Rattle.laws.specs.Exact.{Is256}
+use Rattle.duration.specs.Calls.{Exactly}
+use lib.Ieee.{Float, fin}
+use Rattle.acorde.specs.Values.{BeatsEntered}
 use Rattle.changes.specs.declared.Head.{Head}
 use Rattle.calls.specs.Answers.{headOf}
 use Rattle.acorde.specs.Entries.{headValues, headEntry, countEntry, BarsEntered, automationEntry, AutomationEntered, DiagnosticsEntered, staffEntry, StaffSizeEntered, EngraveEntered, readingEntry, ProofReadEntered}
@@ -49,3 +53,13 @@ size-entered e o = record { answered = ap staffEntry (e ∙ o .answered); work =
 pub read-entered : {r : Result Bool} {work work₁ : List ℕ} {a b : Result Bool} → a ≡ b → ProofReadCalled r work b work₁
     → ProofReadEntered r work (readingEntry a) work₁
 read-entered e o = record { answered = ap readingEntry (e ∙ o .answered); work = o .work }
+
+-- ---- a value's beats
+
+pub beats-given : (r : Result ℕ) (x : Float) → Exactly r (given x) → BeatsEntered r (record { number = 0; beats = x })
+beats-given (refused m) x e = absurd e
+beats-given (given n) x e = (refl, e)
+
+pub beats-refused : (r : Result ℕ) → Exactly r (refused 10) → BeatsEntered r (record { number = 10; beats = fin false 0 (pos 0) })
+beats-refused (refused m) e = (e, (refl, refl))
+beats-refused (given n) e = absurd e

@@ -5,6 +5,9 @@ ghost use Rattle.rules.specs.Piece.{piece};
 ghost use Rattle.rules.specs.Calls.{headCall, partCountCall, partHeadCall, barsCall, automationCall, diagnosticsCall, partSize, staffSizeCall, engraveCall, proofReadCall};
 ghost use lib.ListN.{length};
 ghost use Rattle.acorde.specs.Entries.{headValues, headEntry, countEntry, partHeadEntry, BarsEntered, AutomationEntered, DiagnosticsEntered, StaffSizeEntered, EngraveEntered, ProofReadEntered};
+
+mod values;
+
 use calls::AutomationAnswer;
 use calls::BarsAnswer;
 use calls::DiagnosticsAnswer;
