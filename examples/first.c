@@ -7,8 +7,8 @@ int main(void) {
     uint64_t starts[8], marks[8];
     AcordeHead head = acorde_head(sizes, 3, deltas, 3, words, 3);
     AcordeCount bars = acorde_bars(sizes, 3, deltas, 3, words, 3, starts, 8, marks, 8);
-    if (head.number != 0 || bars.number != 0) {
-        printf("refused %u\n", (unsigned)(head.number != 0 ? head.number : bars.number));
+    if (head.number != ACORDE_OK || bars.number != ACORDE_OK) {
+        printf("refused %u\n", (unsigned)(head.number != ACORDE_OK ? head.number : bars.number));
         return 1;
     }
     printf("tempo %u meter %u/%u bars %u\n", (unsigned)head.tempo, (unsigned)head.upper, (unsigned)head.lower,

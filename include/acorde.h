@@ -1,105 +1,397 @@
-/* The calls of the import for C. A piece is three arrays: sizes, deltas, words; each array passes as a pointer and a count
-   of elements. Pointers are aligned and not null, also where the count is 0; outputs and work areas overlap neither each
-   other nor the inputs. `number` is the refusal's number, 0 where the call is answered; beside a refusal every other field
-   is 0 and no output has changed. Numbers are checked in their order, 4 and 5 together at the first bad event, 4 first.
-   Output behind what a call writes keeps its contents. A work area has at least ACORDE_WORK(N) elements, N the most
-   note-ons above velocity 0 in one track; all of it is zero after the call, also after a refusal. */
+/* acorde.h: from the events of a MIDI recording to bars of up to four voices, for C and C++.
+
+   This file is the manual. It has, in this order: what is asked of a caller; what every call promises; limits;
+   refusals; the piece; the answers; the calls, each under its contract. examples/first.c is a first program,
+   examples/import.c one that makes every call.
+
+   WHAT IS ASKED OF A CALLER
+
+   An array passes as a pointer and a count of elements. The proofs assume of a C caller:
+   - A pointer is valid for its count, aligned for its type and not null, also where the count is 0.
+   - Outputs and work areas overlap neither each other nor the inputs. Inputs may overlap each other.
+   - While a call runs, nothing else writes to its inputs, or reads or writes its outputs and its work area.
+   Nothing else is assumed: any numbers in any arrays of any counts give an answer or a refusal.
+
+   The archive is code for x86-64 Linux. It takes one function from elsewhere, memset, and has no data that is written
+   to. A call needs less than 20 KiB of stack (measured, not proved).
+
+   WHAT EVERY CALL PROMISES
+
+   - It ends, and allocates nothing. No state is kept: what it answers and writes follows from its arguments alone.
+   - The field `number` is 0 (ACORDE_OK) where the call is answered, else the refusal's number. Beside a refusal every
+     other field is 0, and no output has changed.
+   - An output may be longer than needed: what is behind the elements that the call writes keeps its contents.
+   - Inputs are never written to.
+   - After every call all work_n elements of the work area are 0, also after a refusal. What it held before is of no
+     account: it need not be zero, and one area serves all calls, one after another.
+   - Calls may run at the same time if they share no output and no work area. They may share inputs.
+
+   HOW MUCH TO LEND
+
+     acorde_bars          starts, marks         ACORDE_MOST_BARS elements each suffice for every piece
+     acorde_engrave       counts, heads, keys   acorde_staff_size tells: 4 * bars, items and 2 * items elements
+     acorde_automation    ticks, out            as many elements each as the part's track has events suffice
+     acorde_diagnostics   places, details       as many elements each as the piece has events, + 1, suffice
+     all with a work area                       ACORDE_WORK(N) elements, N the most note-ons above velocity 0 in one
+                                                track; the piece's number of events always suffices as N
+
+   TIME
+
+   Each call reads the whole piece again, and zeroes all of the work area that it is lent. Heads, counts, bars,
+   automation and diagnostics take time in proportion to events, tracks and bars; sizes, staffs and proof-reading sort
+   the part's notes too. One shape of piece takes longer: acorde_staff_size and acorde_engrave compare a note with the
+   chords that begin where it begins and end elsewhere, so that n notes of one start and n different ends take n * n / 2
+   comparisons: 0.02 seconds for 5,000 such notes on a desk machine, 2 seconds for 50,000, up to a minute for the worst
+   of all pieces. */
 #ifndef ACORDE_H
 #define ACORDE_H
 
 #include <stddef.h>
 #include <stdint.h>
 
-/* The elements that a work area needs. N may be taken too large: the count of the piece's events always suffices. */
-#define ACORDE_WORK(n) (16 * (size_t)(n) + 4096)
-
 #ifdef __cplusplus
 extern "C" {
 #endif
 
+/* ---- Limits ------------------------------------------------------------------------------------------------------ */
+
+#define ACORDE_MOST_EVENTS 500000      /* in a piece */
+#define ACORDE_LARGEST_SIZE 65535      /* of the division and of the number of tracks */
+#define ACORDE_LARGEST_DELTA 268435455 /* every tick is below 2^47 */
+#define ACORDE_LARGEST_POWER 7         /* of a meter's lower figure: 2^7 = 128 */
+#define ACORDE_MOST_PARTS 32           /* later tracks with notes are no parts */
+#define ACORDE_MOST_BARS 10000         /* what sounds after them is not written */
+#define ACORDE_VOICES 4                /* in each bar of a staff */
+#define ACORDE_LARGEST_STAFF_CODE 8    /* of a staff's written values, which have one dot at most */
+#define ACORDE_LARGEST_CODE 9          /* for acorde_beats */
+#define ACORDE_MOST_DOTS 3             /* for acorde_beats */
+#define ACORDE_LARGEST_KEY 127         /* for acorde_spelling */
+
+/* The elements that a work area needs at least, for n note-ons above velocity 0 in the track that has most of them. */
+#define ACORDE_WORK(n) (16 * (size_t)(n) + 4096)
+
+/* ---- Refusals ---------------------------------------------------------------------------------------------------- */
+
+/* They are asked in the order of their numbers, and the first that applies is given: where it is 4, none of 1 to 3
+   applies. Only 4 and 5 are asked together: the first event that is bad in either way decides, 4 first. Each call says
+   which numbers it can give. */
+#define ACORDE_OK 0
+#define ACORDE_SIZES 1    /* sizes_n is not 2 + the number of tracks, deltas_n or words_n is not the sum of the event
+                             counts, or the division or the number of tracks is above ACORDE_LARGEST_SIZE */
+#define ACORDE_DIVISION 2 /* the division is 0 */
+#define ACORDE_EVENTS 3   /* more than ACORDE_MOST_EVENTS events */
+#define ACORDE_DELTA 4    /* a delta above ACORDE_LARGEST_DELTA */
+#define ACORDE_BAD_WORD 5 /* a word that the table of kinds does not have */
+#define ACORDE_NO_NOTES 6 /* no track has a note-on above velocity 0 */
+#define ACORDE_NO_PART 7  /* no part of that number */
+#define ACORDE_SPACE 8    /* work_n below ACORDE_WORK(N), or an output shorter than what it would get */
+#define ACORDE_UNEVEN 9   /* acorde_proof_read: no verdict can be given on a staff of this part */
+#define ACORDE_RANGE 10   /* acorde_beats, acorde_spelling: an argument out of range */
+
+/* ---- The piece --------------------------------------------------------------------------------------------------- */
+
+/* A piece is three arrays, which every call on one takes first:
+
+     sizes    2 + T elements: the division, the number of tracks T, then the number of events in each track
+     deltas   one for each event, track after track: the ticks since the event before it in its track, or since tick 0
+     words    one for each event: what it is
+
+   The division is a MIDI file's field. With bit 15 set it is timecode, taken as 480 ticks per quarter; otherwise it is
+   the ticks per quarter itself. An event's tick is the sum of its track's deltas through its own. T may be 0.
+
+   A word's bytes, from the top, are its kind, a, b and c. Bytes that the table does not name are 0.
+
+     kind                          a (bits 16-23)      b (bits 8-15)       c (bits 0-7)
+      0  another meta event
+      1  a system event
+      2  tempo                     bits 0-23: microseconds per quarter; 0 changes nothing
+      3  meter                     upper figure        power 0-7 of the lower figure, which is 2^b
+      4  key                       fifths, signed      minor 0 or 1
+      5  marker                    base, any byte      spare, any byte
+      6  end of track              it only adds its delta, and events may follow
+      8  note off                  channel 0-15        key 0-127           velocity 0-127
+      9  note on                   channel 0-15        key 0-127           velocity 0-127; 0 makes it a note off
+     10  key pressure              channel 0-15        key 0-127           value 0-127
+     11  controller                channel 0-15        number 0-127        value 0-127
+     12  program                   channel 0-15        program 0-127
+     13  channel pressure          channel 0-15        value 0-127
+     14  bend                      channel 0-15        low 7 bits          high 7 bits; b + 128 * c - 8192
+
+   Fifths are the key's sharps, below 0 its flats. Tempo, meter and key are read from the first track alone. Markers are
+   explained at acorde_automation. */
+#define ACORDE_KIND_META 0
+#define ACORDE_KIND_SYSTEM 1
+#define ACORDE_KIND_TEMPO 2
+#define ACORDE_KIND_METER 3
+#define ACORDE_KIND_KEY 4
+#define ACORDE_KIND_MARKER 5
+#define ACORDE_KIND_END 6
+#define ACORDE_KIND_OFF 8
+#define ACORDE_KIND_ON 9
+#define ACORDE_KIND_KEY_PRESSURE 10
+#define ACORDE_KIND_CONTROLLER 11
+#define ACORDE_KIND_PROGRAM 12
+#define ACORDE_KIND_PRESSURE 13
+#define ACORDE_KIND_BEND 14
+
+/* A word of four bytes, and a tempo's word. */
+#define ACORDE_WORD(kind, a, b, c) \
+    ((uint32_t)(kind) << 24 | ((uint32_t)(a) & 255) << 16 | ((uint32_t)(b) & 255) << 8 | ((uint32_t)(c) & 255))
+#define ACORDE_TEMPO_WORD(microseconds) \
+    ((uint32_t)ACORDE_KIND_TEMPO << 24 | ((uint32_t)(microseconds) & 16777215))
+
+/* A word taken apart; the value of a bend, -8192 to 8191. */
+#define ACORDE_WORD_KIND(w) ((uint32_t)(w) >> 24)
+#define ACORDE_WORD_A(w) ((uint32_t)(w) >> 16 & 255)
+#define ACORDE_WORD_B(w) ((uint32_t)(w) >> 8 & 255)
+#define ACORDE_WORD_C(w) ((uint32_t)(w) & 255)
+#define ACORDE_BEND_VALUE(w) ((int32_t)(ACORDE_WORD_B(w) + 128 * ACORDE_WORD_C(w)) - 8192)
+
+/* The ticks per quarter of a division. */
+#define ACORDE_TICKS_PER_QUARTER(division) ((uint32_t)(division) & 32768 ? 480 : (uint32_t)(division))
+
+/* ---- Answers ----------------------------------------------------------------------------------------------------- */
+
 typedef struct {
     uint32_t number;
-    uint32_t tempo;   /* beats per minute */
-    uint32_t upper;   /* meter */
-    uint32_t lower;
-    uint32_t has_key; /* 0: the key is absent, and fifths and minor are 0 */
-    int32_t fifths;
-    uint32_t minor;
+    uint32_t tempo;   /* quarters per minute, 1 to 999; 120 where there is none at tick 0 */
+    uint32_t upper;   /* meter, 0 to 255; 4/4 where there is none at tick 0 */
+    uint32_t lower;   /* 1, 2, 4, .. 128 */
+    uint32_t has_key; /* 1, or 0: the key is absent, and fifths and minor are 0 */
+    int32_t fifths;   /* -7 (seven flats) to 7 (seven sharps) */
+    uint32_t minor;   /* 1 minor, 0 major */
 } AcordeHead;
 
 typedef struct {
     uint32_t number;
-    uint32_t count;
+    uint32_t count; /* parts, bars or diagnostics */
 } AcordeCount;
 
 typedef struct {
     uint32_t number;
-    uint32_t channel;
-    uint32_t program;
+    uint32_t channel; /* 0 to 15 */
+    uint32_t program; /* 0 to 127 */
 } AcordePartHead;
+
+typedef struct {
+    uint32_t number;
+    size_t bars;  /* of the piece, 1 to ACORDE_MOST_BARS */
+    size_t items; /* of the part's staff; it may be 0 */
+} AcordeStaff;
+
+typedef struct {
+    uint32_t number;
+    uint32_t right; /* 1 yes, 0 no */
+} AcordeReading;
 
 typedef struct {
     uint32_t number;
     size_t bends;
     size_t controllers;
     size_t programs;
-    size_t pressures;
+    size_t pressures; /* of keys and channels together */
 } AcordeAutomation;
 
 typedef struct {
     uint32_t number;
-    size_t bars;
-    size_t items;
-} AcordeStaff;
+    double beats; /* quarters */
+} AcordeBeats;
 
-/* The piece's head. Numbers 1 to 6. */
+typedef struct {
+    uint32_t number;
+    uint32_t step;  /* 0 C, 1 D, 2 E, 3 F, 4 G, 5 A, 6 B */
+    int32_t octave; /* -1 to 9 */
+    int32_t alter;  /* 1 sharp, 0 natural */
+} AcordeSpelling;
+
+/* ---- Heads and parts --------------------------------------------------------------------------------------------- */
+
+/* The piece's head: of the first track the first tempo and the first meter at tick 0, and its very first key if that
+   one is at tick 0. A tempo is the whole part of 60,000,000 / microseconds, modulo 65,536, then brought within 1 to
+   999; fifths are brought within -7 to 7. Numbers 1 to 6. */
 AcordeHead acorde_head(const uint32_t *sizes, size_t sizes_n, const uint32_t *deltas, size_t deltas_n,
                        const uint32_t *words, size_t words_n);
 
-/* How many parts there are. Numbers 1 to 6. */
+/* How many parts there are, 1 to ACORDE_MOST_PARTS. Parts are the first 32 tracks that have a note-on above velocity 0,
+   in the order of the tracks, numbered from 0. Numbers 1 to 6. */
 AcordeCount acorde_part_count(const uint32_t *sizes, size_t sizes_n, const uint32_t *deltas, size_t deltas_n,
                               const uint32_t *words, size_t words_n);
 
-/* The head of a part, numbered from 0. Numbers 1 to 7. */
+/* A part's head: channel and program of the first program change in its track, whatever its tick, else channel 0 and
+   program 0. Numbers 1 to 7. */
 AcordePartHead acorde_part_head(const uint32_t *sizes, size_t sizes_n, const uint32_t *deltas, size_t deltas_n,
                                 const uint32_t *words, size_t words_n, uint32_t part);
 
-/* The bars, at most 10,000: their count; starts and marks are written. Numbers 1 to 6 and 8. */
+/* ---- Bars -------------------------------------------------------------------------------------------------------- */
+
+/* The bars, the same for all parts: answers how many, 1 to ACORDE_MOST_BARS, and writes as many elements to each of
+
+     starts   the tick at which the bar starts; the first is 0
+     marks    bits 0-7    upper figure of the meter in force
+              bits 8-15   its lower figure
+              bit  16     1 if the meter is printed: on the first bar, and where it differs from the bar before
+              bits 17-26  tempo in quarters per minute, 0 if none is marked
+              bits 27-31  fifths + 8, 0 if no key is marked
+              bit  32     1 if the marked key is minor
+              bits 33-63  0
+
+   A bar goes by the last meter at or before its start, else by 4/4; its length is ACORDE_BAR_TICKS, and the next bar
+   starts where it ends. Bars go on until one ends at or after the end of the last note of all parts. A tempo after tick
+   0, and a key at any tick, is marked only on a bar that starts at its tick; the last at that tick counts. Numbers 1 to
+   6 and 8; 8 here is for the outputs, there is no work area. */
 AcordeCount acorde_bars(const uint32_t *sizes, size_t sizes_n, const uint32_t *deltas, size_t deltas_n,
                         const uint32_t *words, size_t words_n, uint64_t *starts, size_t starts_n, uint64_t *marks,
                         size_t marks_n);
 
-/* The size of a part's staff, its bars and its items: what acorde_engrave needs room for. Only the work area is written.
-   Numbers 1 to 8; 8 where work_n is below ACORDE_WORK(N). */
+/* A mark taken apart. ACORDE_MARK_FIFTHS and _MINOR are meant where ACORDE_MARK_HAS_KEY is 1. */
+#define ACORDE_MARK_UPPER(m) ((uint32_t)(m) & 255)
+#define ACORDE_MARK_LOWER(m) ((uint32_t)(m) >> 8 & 255)
+#define ACORDE_MARK_PRINTED(m) ((uint32_t)(m) >> 16 & 1)
+#define ACORDE_MARK_TEMPO(m) ((uint32_t)(m) >> 17 & 1023)
+#define ACORDE_MARK_HAS_KEY(m) ((uint32_t)(m) >> 27 != 0)
+#define ACORDE_MARK_FIFTHS(m) ((int32_t)((uint32_t)(m) >> 27) - 8)
+#define ACORDE_MARK_MINOR(m) ((uint32_t)((uint64_t)(m) >> 32 & 1))
+
+/* The length in ticks of a bar of mark m, p the ticks per quarter: 4 * p * upper / lower, whole part, at least 1. */
+#define ACORDE_BAR_TICKS(p, m) \
+    (4 * (uint32_t)(p) * ACORDE_MARK_UPPER(m) < ACORDE_MARK_LOWER(m) ? 1 : \
+     4 * (uint32_t)(p) * ACORDE_MARK_UPPER(m) / ACORDE_MARK_LOWER(m))
+
+/* ---- Staffs ------------------------------------------------------------------------------------------------------ */
+
+/* The size of a part's staff: the bars of the piece and the items of the staff. Nothing is written but the work area.
+   Numbers 1 to 8. */
 AcordeStaff acorde_staff_size(const uint32_t *sizes, size_t sizes_n, const uint32_t *deltas, size_t deltas_n,
                               const uint32_t *words, size_t words_n, uint32_t part, uint64_t *work, size_t work_n);
 
-/* A part's staff: its bars and items are answered as by acorde_staff_size, which tells before what to lend:
+/* A part's staff. Answers its size, as acorde_staff_size does, and writes
 
-     counts   4 * bars elements    the item counts of voices 0 to 3 of the first bar, then of the next
-     heads    items elements       bar by bar and voice by voice; bits 0 to 3 code (0 longa, 1 breve, 2 whole, .. 8 64th),
-                                   4 dot, 5 tie-in, 6 tie-out, 7 unpitched, 8 rest; the other bits are 0
-     keys     2 * items elements   two for each head; bit k of the first for key k, of the second for key 64 + k; a rest
-                                   has none
+     counts   4 * bars elements: how many items voices 0 to 3 of the first bar have, then those of the next bar
+     heads    one element an item, bar by bar, in a bar voice by voice, in a voice from the bar's start on
+              bits 0-3    code of the written value: 0 longa, 1 breve, 2 whole, 3 half, 4 quarter, 5 eighth,
+                          6 16th, 7 32nd, 8 64th
+              bit  4      1 if it is dotted
+              bit  5      tie-in: 1 if it is not the first piece of its chord in the bar, or the chord began before
+              bit  6      tie-out: 1 if it is not the last piece of its chord in the bar, or the chord ends later
+              bit  7      1 if it is unpitched: the notes that made the chord were all on channel 9
+              bit  8      1 if it is a rest
+              bits 9-31   0
+     keys     two elements an item: bit k of the first for key k, of the second for key 64 + k; a rest has no keys
 
-   A voice that does not sound in a bar has rests there if it is voice 0, else no items. Numbers 1 to 8; 8 where work_n is
-   below ACORDE_WORK(N), or an output is shorter than said here. */
+   Notes are snapped to a grid of sixteenths, or of thirty-seconds where more than a tenth of the part's notes start off
+   the sixteenths; notes of equal start and end are one chord. A chord goes to the lowest voice that is free at its
+   start. Where none is, its keys go to the first voice whose last chord has that start, or else the voice that ends
+   earliest is cut short for it. Chords are cut at bar lines, and into the longest written values that fit. In a bar in
+   which a voice does not sound, voice 0 has rests and voices 1 to 3 have no items. Ticks that no written value fits are
+   dropped, so that a voice may end before its bar does (a part of number 9, below). Numbers 1 to 8. */
 AcordeStaff acorde_engrave(const uint32_t *sizes, size_t sizes_n, const uint32_t *deltas, size_t deltas_n,
                            const uint32_t *words, size_t words_n, uint32_t part, uint32_t *counts, size_t counts_n,
                            uint32_t *heads, size_t heads_n, uint64_t *keys, size_t keys_n, uint64_t *work,
                            size_t work_n);
 
-/* A part's automation: four counts; ticks at 480 per quarter and words are written, kind after kind. Numbers 1 to 8. */
+/* An item's head taken apart, and whether item i of a staff has a key. */
+#define ACORDE_HEAD_CODE(h) ((uint32_t)(h) & 15)
+#define ACORDE_HEAD_DOTS(h) ((uint32_t)(h) >> 4 & 1)
+#define ACORDE_HEAD_TIE_IN(h) ((uint32_t)(h) >> 5 & 1)
+#define ACORDE_HEAD_TIE_OUT(h) ((uint32_t)(h) >> 6 & 1)
+#define ACORDE_HEAD_UNPITCHED(h) ((uint32_t)(h) >> 7 & 1)
+#define ACORDE_HEAD_REST(h) ((uint32_t)(h) >> 8 & 1)
+#define ACORDE_HAS_KEY(keys, i, key) ((uint32_t)((keys)[2 * (size_t)(i) + (key) / 64] >> (key) % 64 & 1))
+
+/* ---- Proof-reading ----------------------------------------------------------------------------------------------- */
+
+/* Whether a staff of a part is right. Counts, heads and keys are laid out as by acorde_engrave, and counts_n, heads_n
+   and keys_n are exactly 4 * bars, items and 2 * items: longer arrays are malformed. The staff may come from anyone,
+   and have any lengths and contents. It is held against the piece's notes and bars, not against another engraving.
+
+   Yes means all of this. The arrays fit: four counts for each bar of the piece, as many heads as the counts add up to,
+   twice as many keys, and no head has a bit above 8. Every written value is one of staffs: code 0 to 8, a dot or none,
+   a whole number of ticks. Voice 0, and each other voice that has items, fills its bar exactly. Rests have no keys,
+   ties or unpitched mark; other items have a key. Within a voice each tie-out meets a tie-in and each tie-in a tie-out,
+   at one tick, with equal keys and mark; only at the end of the last bar may a tie-out stay open. Tied items played
+   back as one chord, each note whose snapped start is before the end of the last bar has its key in a chord of that
+   start; each key of a chord is that of such a note, of the chord's start; and each chord ends at the snapped end of a
+   note of its start, at the start of its voice's next chord, or at the end of the last bar. Anything else is no, and so
+   is a malformed staff, which is no refusal.
+
+   Every staff that acorde_engrave writes gets yes, if this call is not turned back (proved).
+
+   Numbers 1 to 9. 9: the part's grid, or the length of a bar, is no multiple of the smallest written value, the ticks
+   per quarter halved up to four times while they are even; there is no verdict then. A call that is turned back gives
+   its number before it looks at the staff. */
+AcordeReading acorde_proof_read(const uint32_t *sizes, size_t sizes_n, const uint32_t *deltas, size_t deltas_n,
+                                const uint32_t *words, size_t words_n, uint32_t part, const uint32_t *counts,
+                                size_t counts_n, const uint32_t *heads, size_t heads_n, const uint64_t *keys,
+                                size_t keys_n, uint64_t *work, size_t work_n);
+
+/* ---- Automation -------------------------------------------------------------------------------------------------- */
+
+/* A part's automation: the bends, controllers, programs and pressures of its track. Answers the four counts and writes
+   as many elements as they add up to, first all bends, then all controllers, programs and pressures, each in track
+   order, to
+
+     ticks   the event's tick at 480 per quarter: (tick * 480 + p / 2) / p, whole parts, p the ticks per quarter. Bars
+             and diagnostics have the piece's own ticks.
+     out     the event's word as it stands in the piece, of kind 14; 11; 12; 10 or 13
+
+   Markers (kind 5) of the track say that a spare channel was added beside a base channel. The spare's automation is
+   dropped where it equals the base's, event for event at the same ticks. A marker counts where both are 0 to 15 and
+   differ; a spare with two bases, or a base that is also a spare, makes all of them void. Numbers 1 to 8; 8 here is for
+   the outputs, there is no work area. */
 AcordeAutomation acorde_automation(const uint32_t *sizes, size_t sizes_n, const uint32_t *deltas, size_t deltas_n,
                                    const uint32_t *words, size_t words_n, uint32_t part, uint64_t *ticks,
                                    size_t ticks_n, uint32_t *out, size_t out_n);
 
-/* The diagnostics: their count; places and details are written. place = code * 2^48 + track * 2^32 + event, detail =
-   tick * 2^16 + channel * 2^8 + key, 255 where channel or key is absent. Codes: 1 timecode, 2 tempo or meter off the
-   measure, 3 system event, 4 off without on, 5 on without off. Numbers 1 to 5 and 8. */
+/* ---- Diagnostics ------------------------------------------------------------------------------------------------- */
+
+/* What the import loses or mends: answers how many diagnostics there are and writes as many elements to each of
+
+     places    bits 48-63  code
+               bits 32-47  track, from 0 (a track of the piece, not a part)
+               bits 0-31   event, from 0 in its track
+     details   bits 16-63  tick of the event
+               bits 8-15   channel, 255 (ACORDE_ABSENT) if absent
+               bits 0-7    key, 255 if absent
+
+     code                                                                channel   key
+      1  the division is timecode; track, event and tick are 0           absent    absent
+      2  a tempo or meter of the first track, after tick 0, that is
+         at no multiple of the first meter's length                      absent    absent
+      3  a system event                                                  absent    absent
+      4  a note off that ends nothing                                    its own   absent
+      5  a note on that nothing ends, at its start                       its own   its own
+
+   Code 2 goes by the first meter of any tick, else 4/4, and by 4 * p * upper / lower, whole part; where that is 0 there
+   is no code 2. The order is: code 1; code 2; code 3, track by track; then for each track code 4 in the order of its
+   events, followed by code 5 by channel, key and event. A piece without notes is answered too. Numbers 1 to 5 and 8. */
 AcordeCount acorde_diagnostics(const uint32_t *sizes, size_t sizes_n, const uint32_t *deltas, size_t deltas_n,
                                const uint32_t *words, size_t words_n, uint64_t *places, size_t places_n,
                                uint64_t *details, size_t details_n, uint64_t *work, size_t work_n);
+
+#define ACORDE_FOUND_TIMECODE 1
+#define ACORDE_FOUND_OFF_MEASURE 2
+#define ACORDE_FOUND_SYSTEM 3
+#define ACORDE_FOUND_OFF_WITHOUT_ON 4
+#define ACORDE_FOUND_ON_WITHOUT_OFF 5
+#define ACORDE_ABSENT 255
+
+/* A place and a detail taken apart. */
+#define ACORDE_PLACE_CODE(p) ((uint32_t)((uint64_t)(p) >> 48))
+#define ACORDE_PLACE_TRACK(p) ((uint32_t)((uint64_t)(p) >> 32) & 65535)
+#define ACORDE_PLACE_EVENT(p) ((uint32_t)(p))
+#define ACORDE_DETAIL_TICK(d) ((uint64_t)(d) >> 16)
+#define ACORDE_DETAIL_CHANNEL(d) ((uint32_t)(d) >> 8 & 255)
+#define ACORDE_DETAIL_KEY(d) ((uint32_t)(d) & 255)
+
+/* ---- Single values ----------------------------------------------------------------------------------------------- */
+
+/* A written value's length in quarters, exactly: codes 0 to 8 as in a staff's heads and 9 for the 128th, 0 to 3 dots. A
+   quarter is 1, a longa 16. Number 10 where the code is above ACORDE_LARGEST_CODE or dots above ACORDE_MOST_DOTS. */
+AcordeBeats acorde_beats(uint32_t code, uint32_t dots);
+
+/* A key spelled with sharps: 60 is C 4, 61 C sharp 4, 0 C -1, 127 G 9. Number 10 where the key is above
+   ACORDE_LARGEST_KEY. */
+AcordeSpelling acorde_spelling(uint32_t key);
 
 #ifdef __cplusplus
 }

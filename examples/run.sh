@@ -1,0 +1,39 @@
+#!/usr/bin/env bash
+# Builds the library if it is not there, builds the examples, runs them, under valgrind where it is installed, and
+# compares what they print with examples/import.out. Leaves with status 1 where they differ. CC may name the compiler.
+set -eu
+cd "$(dirname "$0")/.."
+library=target/staticlib/libacorde.a
+programs=target/examples
+flags="-std=c99 -Wall -Wextra -Werror -pedantic -Iinclude"
+
+[ -f "$library" ] || rt staticlib acorde
+mkdir -p "$programs"
+for name in first import; do
+    ${CC:-gcc} $flags "examples/$name.c" "$library" -o "$programs/$name"
+done
+
+under=""
+if command -v valgrind > /dev/null; then
+    under="valgrind --quiet --leak-check=full --error-exitcode=99"
+fi
+
+run() {
+    echo "$ $*"
+    status=0
+    $under "$programs/"$@ || status=$?
+    echo "status $status"
+}
+
+{
+    run first
+    run import
+    run import examples/first.txt
+    run import /dev/null
+} > "$programs/import.out"
+
+if ! diff examples/import.out "$programs/import.out"; then
+    echo "the examples print something else than examples/import.out"
+    exit 1
+fi
+echo "the examples print examples/import.out"
