@@ -5,7 +5,7 @@ use differential::examples::EXAMPLES;
 use differential::piece::Piece;
 #[cfg(feature = "library")]
 use differential::{arbitrary, bench, compare, shrink};
-use differential::{generate, reference, text};
+use differential::{generate, list, reference, text};
 use std::io::Read;
 use std::process::ExitCode;
 
@@ -15,6 +15,7 @@ const USAGE: &str = "usage: differential COMMAND
   examples             document 01's examples against the reference and, with the feature, the library
   generate SEED COUNT  the reference over generated pieces
   piece SEED INDEX     one generated piece
+  list SEED COUNT      a list of the reference's answers for the program `replay`; coverage on the standard error
   compare SEED COUNT [SECONDS]    the proved library against the reference (feature `library`)
   large                           the same on the benchmark's pieces (feature `library`)
   arbitrary SEED COUNT [SECONDS]  the library's entries on arbitrary arrays (feature `library`)
@@ -32,6 +33,12 @@ fn main() -> ExitCode {
         ["generate", seed, count] => number(seed).and_then(|seed| run(seed, number(count)?)),
         ["piece", seed, index] => number(seed).and_then(|seed| {
             print!("{}", generate::numbered(seed, number(index)?).print());
+            Ok(())
+        }),
+        ["list", seed, count] => number(seed).and_then(|seed| {
+            let (list, report) = list::of_seed(seed, number(count)?);
+            print!("{list}");
+            eprint!("{report}");
             Ok(())
         }),
         #[cfg(feature = "library")]
