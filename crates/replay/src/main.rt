@@ -2,16 +2,12 @@
 // full of other numbers, and writes a line for each answer or array that is not the list's. docs/REPLAY.md has the form.
 ghost use Prim.Native.Nat.{_≤_};
 
-mod answers;
 mod asked;
-mod input;
-mod report;
-mod state;
 
-use state::CALL;
-use state::CALLS;
-use state::FAULT;
-use state::PIECE;
+use replay_text::CALL;
+use replay_text::CALLS;
+use replay_text::FAULT;
+use replay_text::PIECE;
 
 // The calls of a piece.
 fn calls_of(
@@ -20,14 +16,14 @@ fn calls_of(
     sizes: &[u32],
     deltas: &[u32],
     words: &[u32],
-    want: &mut [u64; 65536],
-    a: &mut [u64; 65536],
-    b: &mut [u64; 65536],
-    c: &mut [u32; 65536],
-    d: &mut [u32; 65536],
-    work: &mut [u64; 65536],
+    want: &mut [u64; 45056],
+    a: &mut [u64; 45056],
+    b: &mut [u64; 45056],
+    c: &mut [u32; 45056],
+    d: &mut [u32; 45056],
+    work: &mut [u64; 45056],
 ) {
-    let count = input::number(buf, st, true);
+    let count = replay_text::number(buf, st, true);
     let mut i: u64 = 0;
     while i < count {
         if st[FAULT] != 0 {
@@ -35,17 +31,17 @@ fn calls_of(
         }
         st[CALL] = i as usize;
         asked::one(buf, st, sizes, deltas, words, want, a, b, c, d, work);
-        state::count(st, CALLS);
+        replay_text::count(st, CALLS);
         i += 1;
     }
 }
 
 // A piece's number, which is the next.
 fn piece_number(buf: &mut [u8; 65536], st: &mut [usize; 8]) {
-    let n = input::number(buf, st, true);
+    let n = replay_text::number(buf, st, true);
     if n != st[PIECE] as u64 {
         if st[FAULT] == 0 {
-            report::says(st, b"another number in the list");
+            replay_text::says(st, b"another number in the list");
         }
     }
 }
@@ -68,70 +64,61 @@ fn clear_front(l: &mut [u32], n: usize) {
     replayed::clear(&mut l[..m]);
 }
 
+// How many numbers a list has: those of the text or, where `zeros` is not 0, so many zeros.
+fn events(buf: &mut [u8; 65536], st: &mut [usize; 8], l: &mut [u32], zeros: usize) -> usize {
+    let n = replay_text::narrow_list(buf, st, l);
+    if zeros == 0 {
+        return n;
+    }
+    clear_front(l, zeros);
+    zeros
+}
+
 // A piece: its arrays, then its calls. Where `zeros` is not 0, so many events of delta 0 and word 0 are the piece's.
 fn piece(
     buf: &mut [u8; 65536],
     st: &mut [usize; 8],
     sizes: &mut [u32; 4096],
     deltas: &mut [u32; 500008],
-    words: &mut [u32; 16384],
-    want: &mut [u64; 65536],
-    a: &mut [u64; 65536],
-    b: &mut [u64; 65536],
-    c: &mut [u32; 65536],
-    d: &mut [u32; 65536],
-    work: &mut [u64; 65536],
+    words: &mut [u32; 500008],
+    want: &mut [u64; 45056],
+    a: &mut [u64; 45056],
+    b: &mut [u64; 45056],
+    c: &mut [u32; 45056],
+    d: &mut [u32; 45056],
+    work: &mut [u64; 45056],
 ) {
     piece_number(buf, st);
-    let zeros = input::limited(buf, st, 500008);
-    let ns = input::narrow_list(buf, st, sizes);
-    let nd = input::narrow_list(buf, st, deltas);
-    let nw = input::narrow_list(buf, st, words);
-    if zeros == 0 {
-        let given = front(sizes, ns);
-        calls_of(
-            buf,
-            st,
-            given,
-            front(deltas, nd),
-            front(words, nw),
-            want,
-            a,
-            b,
-            c,
-            d,
-            work,
-        );
-    } else {
-        clear_front(deltas, zeros);
-        let same = front(deltas, zeros);
-        calls_of(
-            buf,
-            st,
-            front(sizes, ns),
-            same,
-            same,
-            want,
-            a,
-            b,
-            c,
-            d,
-            work,
-        );
-    }
+    let zeros = replay_text::limited(buf, st, 500008);
+    let ns = replay_text::narrow_list(buf, st, sizes);
+    let nd = events(buf, st, deltas, zeros);
+    let nw = events(buf, st, words, zeros);
+    calls_of(
+        buf,
+        st,
+        front(sizes, ns),
+        front(deltas, nd),
+        front(words, nw),
+        want,
+        a,
+        b,
+        c,
+        d,
+        work,
+    );
 }
 
 // What stands behind the last piece, and the last line.
 fn finish(buf: &mut [u8; 65536], st: &mut [usize; 8], pieces: u64) {
     if st[FAULT] != 0 {
-        report::fault(st);
+        replay_text::fault_line(st);
     } else {
-        input::number(buf, st, true);
-        if st[FAULT] != state::ENDS {
-            report::says(st, b"more than the list's pieces");
+        replay_text::number(buf, st, true);
+        if st[FAULT] != replay_text::ENDS {
+            replay_text::says(st, b"more than the list's pieces");
         }
     }
-    report::total(st, pieces);
+    replay_text::total(st, pieces);
 }
 
 // The whole list.
@@ -140,15 +127,15 @@ fn replay(
     st: &mut [usize; 8],
     sizes: &mut [u32; 4096],
     deltas: &mut [u32; 500008],
-    words: &mut [u32; 16384],
-    want: &mut [u64; 65536],
-    a: &mut [u64; 65536],
-    b: &mut [u64; 65536],
-    c: &mut [u32; 65536],
-    d: &mut [u32; 65536],
-    work: &mut [u64; 65536],
+    words: &mut [u32; 500008],
+    want: &mut [u64; 45056],
+    a: &mut [u64; 45056],
+    b: &mut [u64; 45056],
+    c: &mut [u32; 45056],
+    d: &mut [u32; 45056],
+    work: &mut [u64; 45056],
 ) {
-    let count = input::number(buf, st, true);
+    let count = replay_text::number(buf, st, true);
     let mut i: u64 = 0;
     while i < count {
         if st[FAULT] != 0 {
@@ -166,13 +153,13 @@ fn main() {
     let mut st = [0usize; 8];
     let mut sizes = [0u32; 4096];
     let mut deltas = [0u32; 500008];
-    let mut words = [0u32; 16384];
-    let mut want = [0u64; 65536];
-    let mut a = [0u64; 65536];
-    let mut b = [0u64; 65536];
-    let mut c = [0u32; 65536];
-    let mut d = [0u32; 65536];
-    let mut work = [0u64; 65536];
+    let mut words = [0u32; 500008];
+    let mut want = [0u64; 45056];
+    let mut a = [0u64; 45056];
+    let mut b = [0u64; 45056];
+    let mut c = [0u32; 45056];
+    let mut d = [0u32; 45056];
+    let mut work = [0u64; 45056];
     replay(
         &mut buf,
         &mut st,

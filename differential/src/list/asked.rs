@@ -31,7 +31,11 @@ const DIAGNOSTICS: Call = Call("diagnostics", 8, ["places", "details", "", ""]);
 /// What is asked of a piece. Where `narrow`, also with exactly enough room, and with one element too few in each array.
 pub fn of(entry: &Entry, narrow: bool) -> Vec<Asked> {
     let admitted = refusals::admission(&entry.piece).is_none();
-    let work = if admitted { refusals::work(&entry.piece) } else { 9 };
+    let work = if admitted {
+        refusals::work(&entry.piece)
+    } else {
+        9
+    };
     let mut asks = Asks {
         list: Vec::new(),
         work,
@@ -96,7 +100,12 @@ impl Asks {
             words,
         } = packed::automation(&part.automation);
         let answer = [0].into_iter().chain(counts).map(u64::from).collect();
-        self.add(AUTOMATION, number, answer, [ticks, vec![], wide(words), vec![]]);
+        self.add(
+            AUTOMATION,
+            number,
+            answer,
+            [ticks, vec![], wide(words), vec![]],
+        );
     }
 
     /// Every call but the diagnostics, refused.

@@ -21,21 +21,22 @@ pub struct Choice {
 impl Choice {
     /// The chosen pieces, in the order of their texts' lengths.
     pub fn of(entries: Vec<Entry>) -> Vec<Entry> {
-        let mut sized: Vec<_> = entries.into_iter().map(|e| (text::length(&e), e)).collect();
-        let ordinary = sized.iter().enumerate();
-        let ordinary = ordinary.filter(|(_, (length, _))| ORDINARY_LENGTHS.contains(length));
-        let last = ordinary.map(|(index, _)| index).take(ORDINARY).last();
-        // Those before `first_others` that are of these lengths are taken whatever they reach.
-        let first_others = last.map_or(0, |index| index + 1);
-        let mut sized: Vec<_> = sized.drain(..).enumerate().collect();
-        sized.sort_by_key(|(_, (length, _))| *length);
+        let mut ordinary = 0;
+        let mut sized = Vec::new();
+        for entry in entries {
+            let length = text::length(&entry);
+            let whatever = ordinary < ORDINARY && ORDINARY_LENGTHS.contains(&length);
+            ordinary += usize::from(whatever);
+            sized.push((length, whatever, entry));
+        }
+        sized.sort_by_key(|(length, ..)| *length);
         let mut choice = Self {
             reached: Vec::new(),
         };
         let mut chosen = Vec::new();
-        for (index, (length, entry)) in sized {
+        for (length, whatever, entry) in sized {
             let wanted = match length {
-                _ if index < first_others && ORDINARY_LENGTHS.contains(&length) => usize::MAX,
+                _ if whatever => usize::MAX,
                 0..=LONGEST => WANTED,
                 0..=LONGEST_OF_ALL => 1,
                 _ => continue,

@@ -1,7 +1,7 @@
 //! The list's text: decimals, with labels that have no digit before them, each list after its length.
 
-use super::asked::{self, Asked};
 use super::Entry;
+use super::asked::{self, Asked};
 use std::fmt::{Display, Write};
 
 /// The pieces asked with exactly enough and with too little room, too: one in so many, of the shorter ones.

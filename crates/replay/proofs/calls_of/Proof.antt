@@ -2,11 +2,6 @@ use borrow.Author.Needs.{needs}
 use Prim.Native.Nat.{_-_}
 use Rattle.replay.proofs.calls_of.Statement.{statement}
 use Rattle.replay.proofs.calls_of.Tie as tie
-use Rattle.replay.proofs.calls_of.Reads as reads
-use Rattle.replay.proofs.calls_of.Lts as lts
-use Rattle.replay.proofs.asked.one.Reads as one-reads
-use Rattle.replay.proofs.input.number.Reads as number-reads
-use Rattle.replay.proofs.state.count.Reads as count-reads
 
 abbrev Inv-loop : tie.InvT-loop
 Inv-loop buf₀ st₀ sizes deltas words want₀ a₀ b₀ c₀ d₀ work₀ count i₀ buf st want a b c d work i =
@@ -15,47 +10,36 @@ Inv-loop buf₀ st₀ sizes deltas words want₀ a₀ b₀ c₀ d₀ work₀ cou
 abbrev μ-loop : tie.MeasureT-loop
 μ-loop buf₀ st₀ sizes deltas words want₀ a₀ b₀ c₀ d₀ work₀ count i₀ buf st want a b c d work i = count - i
 
--- src/main.rt:29:9
 number-requires : tie.Need-number-requires Inv-loop μ-loop
 number-requires c κs = search needs
 
--- src/main.rt:31:5
 loop-holds : tie.Need-loop-holds Inv-loop μ-loop
 loop-holds c = search needs
 
--- src/main.rt:32:12
 element-copy-out-if1 : tie.Need-element-copy-out-if1 Inv-loop μ-loop
 element-copy-out-if1 c = search needs
 
--- src/main.rt:35:9
 element-write-st : tie.Need-element-write-st Inv-loop μ-loop
 element-write-st c = search needs
 
--- src/main.rt:36:9
 one-requires : tie.Need-one-requires Inv-loop μ-loop
 one-requires c κs = search needs
 
--- src/main.rt:37:9
 count-requires : tie.Need-count-requires Inv-loop μ-loop
 count-requires c κs = search needs
 
--- src/main.rt:38:9
 add-i : tie.Need-add-i Inv-loop μ-loop
 add-i c = search needs
 
--- src/main.rt:31:5
 loop-less : tie.Need-loop-less Inv-loop μ-loop
 loop-less c = search needs
 
--- src/main.rt:31:5
 loop-again : tie.Need-loop-again Inv-loop μ-loop
 loop-again c = search needs
 
--- src/main.rt:16:1
 returns : tie.Need-returns Inv-loop μ-loop
 returns c = search needs
 
--- src/main.rt:16:1
 returns-2 : tie.Need-returns-2 Inv-loop μ-loop
 returns-2 c = search needs
 

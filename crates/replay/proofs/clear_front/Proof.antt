@@ -3,32 +3,22 @@ use lib.Seq.{length-take-le}
 use borrow.Author.Needs.{needs}
 use Rattle.replay.proofs.clear_front.Statement.{statement}
 use Rattle.replay.proofs.clear_front.Tie as tie
-use Rattle.replay.proofs.clear_front.Reads as reads
-use Rattle.replay.proofs.clear_front.Lts as lts
-use Rattle.replay.proofs.least.Reads as least-reads
-use Rattle.replayed.proofs.clear.Reads as clear-reads
 
--- src/main.rt:66:9
 least-requires : tie.Need-least-requires
 least-requires c κs = search needs
 
--- src/main.rt:67:21
 slice-relend-prefix-clear : tie.Need-slice-relend-prefix-clear
 slice-relend-prefix-clear c = search needs
 
--- src/main.rt:67:21
 slice-aggregate-clear : tie.Need-slice-aggregate-clear
 slice-aggregate-clear c = sym (length-take-le _ _ (c .before .least .ensures))
 
--- src/main.rt:67:5
 clear-requires : tie.Need-clear-requires
 clear-requires c κs = search needs
 
--- src/main.rt:65:1
 same-length : tie.Need-same-length
 same-length c = search needs
 
--- src/main.rt:65:1
 returns : tie.Need-returns
 returns c = search needs
 

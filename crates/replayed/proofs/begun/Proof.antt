@@ -6,31 +6,22 @@ use Rattle.replayed.proofs.Laws.{digit-low, begun-digit, begun-gap, beg
 use borrow.Author.Needs.{needs}
 use Rattle.replayed.proofs.begun.Statement.{statement}
 use Rattle.replayed.proofs.begun.Tie as tie
-use Rattle.replayed.proofs.begun.Reads as reads
-use Rattle.replayed.proofs.begun.Lts as lts
-use Rattle.replayed.proofs.is_digit.Reads as is-digit-reads
 
--- src/lib.rt:34:8
 is-digit-requires : tie.Need-is-digit-requires
 is-digit-requires c κs = search needs
 
--- src/lib.rt:35:32
 sub-t5 : tie.Need-sub-t5
 sub-t5 c = digit-low _ (sym (c .before .is-digit .ensures) ∙ c .if1 .taken)
 
--- src/lib.rt:35:9
 returns : tie.Need-returns
 returns c = sym (begun-digit _ _ (sym (c .before .is-digit .ensures) ∙ c .if1 .taken))
 
--- src/lib.rt:38:9
 returns-2 : tie.Need-returns-2
 returns-2 c = sym (begun-gap _ _ (sym (c .before .before .is-digit .ensures) ∙ c .before .if1 .left) (gap-label _ (c .before .before .before .args .byte) (c .if2 .taken)))
 
--- src/lib.rt:41:9
 returns-3 : tie.Need-returns-3
 returns-3 c = sym (begun-gap _ _ (sym (c .before .before .before .is-digit .ensures) ∙ c .before .before .if1 .left) (gap-low _ _ (c .before .if2 .left) (c .if3 .taken)))
 
--- src/lib.rt:31:1
 returns-4 : tie.Need-returns-4
 returns-4 c = sym (begun-word _ _ (sym (c .before .before .before .is-digit .ensures) ∙ c .before .before .if1 .left) (gap-none _ _ (c .before .if2 .left) (c .if3 .left)))
 

@@ -7,8 +7,6 @@ use Rattle.replayed.specs.Differences.{difference}
 use Rattle.replayed.proofs.Laws.{differ-more, differ-here, differ-end}
 use Rattle.replayed.proofs.first_not_zero.Statement.{statement}
 use Rattle.replayed.proofs.first_not_zero.Tie as tie
-use Rattle.replayed.proofs.first_not_zero.Reads as reads
-use Rattle.replayed.proofs.first_not_zero.Lts as lts
 
 zero-at : (l : List ℕ) (i : ℕ) → i < length l → _≡_ {A = ℕ} (getD (replicate (length l) 0) i 0) 0
 zero-at l i h = getD-replicate (length l) i 0 0 h
@@ -19,19 +17,15 @@ Inv-loop l i₀ i = (i ≤ length l) × (difference i (drop i (replicate (length
 abbrev μ-loop : tie.MeasureT-loop
 μ-loop l i₀ i = length l - i
 
--- src/lib.rt:185:5
 loop-holds : tie.Need-loop-holds Inv-loop μ-loop
 loop-holds c = (omega arith, refl)
 
--- src/lib.rt:186:12
 mul-if1 : tie.Need-mul-if1 Inv-loop μ-loop
 mul-if1 c = omega arith
 
--- src/lib.rt:186:12
 shared-slice-read-if1 : tie.Need-shared-slice-read-if1 Inv-loop μ-loop
 shared-slice-read-if1 c = omega arith
 
--- src/lib.rt:187:13
 returns : tie.Need-returns Inv-loop μ-loop
 returns c =
     let at = c .before .before .before .loop in
@@ -39,15 +33,12 @@ returns c =
     let size = length-replicate {A = ℕ} (length l) 0 in
     sym (differ-here (replicate (length l) 0) l (at .i) (omega arith) (omega arith) (λ e. c .if1 .taken (sym e ∙ zero-at l (at .i) (omega arith)))) ∙ at .inv .1
 
--- src/lib.rt:189:9
 add-i : tie.Need-add-i Inv-loop μ-loop
 add-i c = omega arith
 
--- src/lib.rt:185:5
 loop-less : tie.Need-loop-less Inv-loop μ-loop
 loop-less c = omega arith
 
--- src/lib.rt:185:5
 loop-again : tie.Need-loop-again Inv-loop μ-loop
 loop-again c =
     let at = c .before .before .before .loop in
@@ -55,7 +46,6 @@ loop-again c =
     let size = length-replicate {A = ℕ} (length l) 0 in
     (omega arith, sym (differ-more (replicate (length l) 0) l (at .i) (omega arith) (omega arith) (zero-at l (at .i) (omega arith) ∙ sym (c .if1 .left))) ∙ at .inv .1)
 
--- src/lib.rt:181:1
 returns-2 : tie.Need-returns-2 Inv-loop μ-loop
 returns-2 c =
     let at = c .before .loop in

@@ -6,47 +6,34 @@ use Rattle.replayed.proofs.Laws.{digit-low, on-digit, on-large, on-gap,
 use borrow.Author.Needs.{needs}
 use Rattle.replayed.proofs.gone_on.Statement.{statement}
 use Rattle.replayed.proofs.gone_on.Tie as tie
-use Rattle.replayed.proofs.gone_on.Reads as reads
-use Rattle.replayed.proofs.gone_on.Lts as lts
-use Rattle.replayed.proofs.is_digit.Reads as is-digit-reads
 
--- src/lib.rt:50:8
 is-digit-requires : tie.Need-is-digit-requires
 is-digit-requires c κs = search needs
 
--- src/lib.rt:51:20
 sub-next : tie.Need-sub-next
 sub-next c = digit-low _ (sym (c .before .is-digit .ensures) ∙ c .if1 .taken)
 
--- src/lib.rt:52:22
 sub-if2 : tie.Need-sub-if2
 sub-if2 c = search needs
 
--- src/lib.rt:53:36
 mul-t9 : tie.Need-mul-t9
 mul-t9 c = search needs
 
--- src/lib.rt:53:36
 add-t10 : tie.Need-add-t10
 add-t10 c = search needs
 
--- src/lib.rt:53:13
 returns : tie.Need-returns
 returns c = let low = digit-low (c .before .before .before .args .byte) (sym (c .before .before .is-digit .ensures) ∙ c .before .if1 .taken) in sym (on-digit _ _ _ (sym (c .before .before .is-digit .ensures) ∙ c .before .if1 .taken) (omega (arith, c .if2 .taken)))
 
--- src/lib.rt:55:9
 returns-2 : tie.Need-returns-2
 returns-2 c = let low = digit-low (c .before .before .before .args .byte) (sym (c .before .before .is-digit .ensures) ∙ c .before .if1 .taken) in sym (on-large _ _ _ (sym (c .before .before .is-digit .ensures) ∙ c .before .if1 .taken) (omega (arith, c .if2 .left)))
 
--- src/lib.rt:58:9
 returns-3 : tie.Need-returns-3
 returns-3 c = sym (on-gap _ _ _ (sym (c .before .before .is-digit .ensures) ∙ c .before .if1 .left) (gap-label _ (c .before .before .before .args .byte) (c .if3 .taken)))
 
--- src/lib.rt:61:9
 returns-4 : tie.Need-returns-4
 returns-4 c = sym (on-gap _ _ _ (sym (c .before .before .before .is-digit .ensures) ∙ c .before .before .if1 .left) (gap-low _ _ (c .before .if3 .left) (c .if4 .taken)))
 
--- src/lib.rt:47:1
 returns-5 : tie.Need-returns-5
 returns-5 c = sym (on-word _ _ _ (sym (c .before .before .before .is-digit .ensures) ∙ c .before .before .if1 .left) (gap-none _ _ (c .before .if3 .left) (c .if4 .left)))
 

@@ -8,10 +8,6 @@ use Rattle.replayed.specs.Decimals.{ended, scanned}
 use Rattle.replayed.proofs.Laws.{scan-more, scan-ended, scan-end}
 use Rattle.replayed.proofs.scan.Statement.{statement}
 use Rattle.replayed.proofs.scan.Tie as tie
-use Rattle.replayed.proofs.scan.Reads as reads
-use Rattle.replayed.proofs.scan.Lts as lts
-use Rattle.replayed.proofs.is_ended.Reads as is-ended-reads
-use Rattle.replayed.proofs.step.Reads as step-reads
 
 abbrev Inv-loop : tie.InvT-loop
 Inv-loop text from label found₀ at₀ found at = scanned label (drop at text) found at ≡ scanned label (drop at₀ text) found₀ at₀
@@ -19,31 +15,24 @@ Inv-loop text from label found₀ at₀ found at = scanned label (drop at text) 
 abbrev μ-loop : tie.MeasureT-loop
 μ-loop text from label found₀ at₀ found at = length text - at
 
--- src/lib.rt:103:5
 loop-holds : tie.Need-loop-holds Inv-loop μ-loop
 loop-holds c = refl
 
--- src/lib.rt:104:12
 is-ended-requires : tie.Need-is-ended-requires Inv-loop μ-loop
 is-ended-requires c κs = tt
 
--- src/lib.rt:107:29
 shared-slice-read-step : tie.Need-shared-slice-read-step Inv-loop μ-loop
 shared-slice-read-step c = omega arith
 
--- src/lib.rt:107:9
 step-requires : tie.Need-step-requires Inv-loop μ-loop
 step-requires c κs = tt
 
--- src/lib.rt:108:9
 add-at : tie.Need-add-at Inv-loop μ-loop
 add-at c = omega arith
 
--- src/lib.rt:103:5
 loop-less : tie.Need-loop-less Inv-loop μ-loop
 loop-less c = omega arith
 
--- src/lib.rt:103:5
 loop-again : tie.Need-loop-again Inv-loop μ-loop
 loop-again c =
     let at = c .before .before .before .before .before .loop in
@@ -51,14 +40,12 @@ loop-again c =
     let going : ended (at .found) ≡ false = sym (c .before .before .before .is-ended .ensures) ∙ c .before .before .if1 .left in
     rw (c .step .ensures) (sym (scan-more (a .label) (a .text .now) (at .found) (at .at) (omega arith) going) ∙ at .inv)
 
--- src/lib.rt:98:1
 returns : tie.Need-returns Inv-loop μ-loop
 returns c =
     let at = c .before .loop in
     let a = c .before .before .before .args in
     sym (scan-end (a .label) (a .text .now) (at .found) (at .at) (omega arith)) ∙ at .inv
 
--- src/lib.rt:98:1
 returns-2 : tie.Need-returns-2 Inv-loop μ-loop
 returns-2 c =
     let at = c .before .before .before .loop in

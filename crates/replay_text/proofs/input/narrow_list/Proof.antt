@@ -2,12 +2,8 @@ use borrow.Author.Needs.{needs}
 use Prim.Native.Nat.{_-_, _≤_}
 use mathlib.Core.Path.{_≡_}
 use lib.ListN.{length}
-use Rattle.replay.proofs.input.list.Statement.{statement}
-use Rattle.replay.proofs.input.list.Tie as tie
-use Rattle.replay.proofs.input.list.Reads as reads
-use Rattle.replay.proofs.input.list.Lts as lts
-use Rattle.replay.proofs.input.limited.Reads as limited-reads
-use Rattle.replay.proofs.input.number.Reads as number-reads
+use Rattle.replay_text.proofs.input.narrow_list.Statement.{statement}
+use Rattle.replay_text.proofs.input.narrow_list.Tie as tie
 
 abbrev Inv-loop : tie.InvT-loop
 Inv-loop buf₀ st₀ out₀ n i₀ buf st out i = (i ≤ n) × (length out ≡ length out₀)
@@ -15,55 +11,45 @@ Inv-loop buf₀ st₀ out₀ n i₀ buf st out i = (i ≤ n) × (length out ≡ 
 abbrev μ-loop : tie.MeasureT-loop
 μ-loop buf₀ st₀ out₀ n i₀ buf st out i = n - i
 
--- src/input.rt:95:9
 limited-requires : tie.Need-limited-requires Inv-loop μ-loop
 limited-requires c κs = search needs
 
--- src/input.rt:97:5
 loop-holds : tie.Need-loop-holds Inv-loop μ-loop
 loop-holds c = search needs
 
--- src/input.rt:98:18
-number-requires : tie.Need-number-requires Inv-loop μ-loop
-number-requires c κs = search needs
+narrow-requires : tie.Need-narrow-requires Inv-loop μ-loop
+narrow-requires c κs = search needs
 
--- src/input.rt:98:9
 mul-out : tie.Need-mul-out Inv-loop μ-loop
 mul-out c = search needs
 
--- src/input.rt:98:9
 slice-write-out : tie.Need-slice-write-out Inv-loop μ-loop
 slice-write-out c = search needs
 
--- src/input.rt:99:9
 add-i : tie.Need-add-i Inv-loop μ-loop
 add-i c = search needs
 
--- src/input.rt:97:5
 loop-less : tie.Need-loop-less Inv-loop μ-loop
 loop-less c = search needs
 
--- src/input.rt:97:5
 loop-again : tie.Need-loop-again Inv-loop μ-loop
 loop-again c = search needs
 
--- src/input.rt:94:1
 same-length : tie.Need-same-length Inv-loop μ-loop
 same-length c = search needs
 
--- src/input.rt:94:1
 returns : tie.Need-returns Inv-loop μ-loop
 returns c = search needs
 
-pub list-spec : {M : Type 1} → statement M
-list-spec =
+pub narrow-list-spec : {M : Type 1} → statement M
+narrow-list-spec =
     tie.close
     (tie.spec
     Inv-loop
     μ-loop
     limited-requires
     loop-holds
-    number-requires
+    narrow-requires
     mul-out
     slice-write-out
     add-i

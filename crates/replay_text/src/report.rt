@@ -85,7 +85,7 @@ pub fn says(st: &mut [usize; 8], text: &[u8]) {
 }
 
 // A line where the list could not be read to its end.
-pub fn fault(st: &mut [usize; 8]) {
+pub fn fault_line(st: &mut [usize; 8]) {
     match st[FAULT] {
         state::ENDS => says(st, b"the list ends early"),
         state::WORD => says(st, b"no number where one is due"),
