@@ -2,64 +2,6 @@
 use replay_text::CODE;
 use replay_text::FAULT;
 
-// A list of the text against an array of u64: the list at its front, and behind it what stood there before the call.
-fn check(buf: &mut [u8; 65536], st: &mut [usize; 8], want: &mut [u64], found: &[u64], what: usize) {
-    let n = found.len();
-    if want.len() < n {
-        replay_text::fault(st, replay_text::LONG);
-        return;
-    }
-    let wanted = &mut want[..n];
-    replayed::fill(wanted);
-    replay_text::list(buf, st, wanted);
-    if st[FAULT] == 0 {
-        replay_text::differs(st, what, replayed::first_difference(wanted, found));
-    }
-}
-
-// The same, against an array of u32.
-fn check_narrow(
-    buf: &mut [u8; 65536],
-    st: &mut [usize; 8],
-    want: &mut [u64],
-    found: &[u32],
-    what: usize,
-) {
-    let n = found.len();
-    if want.len() < n {
-        replay_text::fault(st, replay_text::LONG);
-        return;
-    }
-    let wanted = &mut want[..n];
-    replayed::fill(wanted);
-    replay_text::list(buf, st, wanted);
-    if st[FAULT] == 0 {
-        replay_text::differs(st, what, replayed::first_difference_narrow(wanted, found));
-    }
-}
-
-// What the call left, against the list: its answer, its lists, and the work area, which is zero. A call without one is lent none.
-fn compare(
-    buf: &mut [u8; 65536],
-    st: &mut [usize; 8],
-    want: &mut [u64; 45056],
-    said: &[u64],
-    a: &[u64],
-    b: &[u64],
-    c: &[u32],
-    d: &[u32],
-    work: &[u64],
-) {
-    check(buf, st, want, said, 0);
-    check(buf, st, want, a, 1);
-    check(buf, st, want, b, 2);
-    check_narrow(buf, st, want, c, 3);
-    check_narrow(buf, st, want, d, 4);
-    if st[FAULT] == 0 {
-        replay_text::differs(st, 5, replayed::first_not_zero(work));
-    }
-}
-
 // Makes the call in arrays of the room asked, and compares.
 fn answered(
     buf: &mut [u8; 65536],
@@ -77,7 +19,7 @@ fn answered(
     work: &mut [u64],
 ) {
     replay_calls::make(st[CODE], sizes, deltas, words, part, a, b, c, d, work, said);
-    compare(buf, st, want, said, a, b, c, d, work);
+    replay_text::compare(buf, st, want, said, a, b, c, d, work);
 }
 
 // One call of the list.

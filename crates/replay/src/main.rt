@@ -9,8 +9,8 @@ use replay_text::CALLS;
 use replay_text::FAULT;
 use replay_text::PIECE;
 
-// The calls of a piece.
-fn calls_of(
+// The calls of a piece, in arrays that are lent to each.
+fn each_call(
     buf: &mut [u8; 65536],
     st: &mut [usize; 8],
     sizes: &[u32],
@@ -34,6 +34,35 @@ fn calls_of(
         replay_text::count(st, CALLS);
         i += 1;
     }
+}
+
+// The calls of a piece.
+fn calls_of(
+    buf: &mut [u8; 65536],
+    st: &mut [usize; 8],
+    sizes: &[u32],
+    deltas: &[u32],
+    words: &[u32],
+) {
+    let mut want = [0u64; 45056];
+    let mut a = [0u64; 45056];
+    let mut b = [0u64; 45056];
+    let mut c = [0u32; 45056];
+    let mut d = [0u32; 45056];
+    let mut work = [0u64; 45056];
+    each_call(
+        buf,
+        st,
+        sizes,
+        deltas,
+        words,
+        &mut want,
+        &mut a,
+        &mut b,
+        &mut c,
+        &mut d,
+        &mut work,
+    );
 }
 
 // A piece's number, which is the next.
@@ -81,12 +110,6 @@ fn piece(
     sizes: &mut [u32; 4096],
     deltas: &mut [u32; 500008],
     words: &mut [u32; 500008],
-    want: &mut [u64; 45056],
-    a: &mut [u64; 45056],
-    b: &mut [u64; 45056],
-    c: &mut [u32; 45056],
-    d: &mut [u32; 45056],
-    work: &mut [u64; 45056],
 ) {
     piece_number(buf, st);
     let zeros = replay_text::limited(buf, st, 500008);
@@ -99,12 +122,6 @@ fn piece(
         front(sizes, ns),
         front(deltas, nd),
         front(words, nw),
-        want,
-        a,
-        b,
-        c,
-        d,
-        work,
     );
 }
 
@@ -128,12 +145,6 @@ fn replay(
     sizes: &mut [u32; 4096],
     deltas: &mut [u32; 500008],
     words: &mut [u32; 500008],
-    want: &mut [u64; 45056],
-    a: &mut [u64; 45056],
-    b: &mut [u64; 45056],
-    c: &mut [u32; 45056],
-    d: &mut [u32; 45056],
-    work: &mut [u64; 45056],
 ) {
     let count = replay_text::number(buf, st, true);
     let mut i: u64 = 0;
@@ -142,7 +153,7 @@ fn replay(
             break;
         }
         st[PIECE] = i as usize;
-        piece(buf, st, sizes, deltas, words, want, a, b, c, d, work);
+        piece(buf, st, sizes, deltas, words);
         i += 1;
     }
     finish(buf, st, i);
@@ -154,23 +165,5 @@ fn main() {
     let mut sizes = [0u32; 4096];
     let mut deltas = [0u32; 500008];
     let mut words = [0u32; 500008];
-    let mut want = [0u64; 45056];
-    let mut a = [0u64; 45056];
-    let mut b = [0u64; 45056];
-    let mut c = [0u32; 45056];
-    let mut d = [0u32; 45056];
-    let mut work = [0u64; 45056];
-    replay(
-        &mut buf,
-        &mut st,
-        &mut sizes,
-        &mut deltas,
-        &mut words,
-        &mut want,
-        &mut a,
-        &mut b,
-        &mut c,
-        &mut d,
-        &mut work,
-    );
+    replay(&mut buf, &mut st, &mut sizes, &mut deltas, &mut words);
 }

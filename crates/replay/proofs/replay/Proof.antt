@@ -4,11 +4,11 @@ use Rattle.replay.proofs.replay.Statement.{statement}
 use Rattle.replay.proofs.replay.Tie as tie
 
 abbrev Inv-loop : tie.InvT-loop
-Inv-loop buf₀ st₀ sizes₀ deltas₀ words₀ want₀ a₀ b₀ c₀ d₀ work₀ count i₀ buf st sizes deltas words want a b c d work i =
+Inv-loop buf₀ st₀ sizes₀ deltas₀ words₀ count i₀ buf st sizes deltas words i =
     Unit {0}
 
 abbrev μ-loop : tie.MeasureT-loop
-μ-loop buf₀ st₀ sizes₀ deltas₀ words₀ want₀ a₀ b₀ c₀ d₀ work₀ count i₀ buf st sizes deltas words want a b c d work i =
+μ-loop buf₀ st₀ sizes₀ deltas₀ words₀ count i₀ buf st sizes deltas words i =
     count - i
 
 number-requires : tie.Need-number-requires Inv-loop μ-loop

@@ -1,8 +1,8 @@
 use mathlib.Core.Path.{sym}
 use lib.Seq.{length-take-le}
 use borrow.Author.Needs.{needs}
-use Rattle.replay.proofs.asked.check.Statement.{statement}
-use Rattle.replay.proofs.asked.check.Tie as tie
+use Rattle.replay_text.proofs.compared.check.Statement.{statement}
+use Rattle.replay_text.proofs.compared.check.Tie as tie
 
 fault-requires : tie.Need-fault-requires
 fault-requires c κs = search needs

@@ -1,8 +1,8 @@
 use mathlib.Core.Path.{sym}
 use lib.Seq.{length-take-le}
 use borrow.Author.Needs.{needs}
-use Rattle.replay.proofs.asked.check_narrow.Statement.{statement}
-use Rattle.replay.proofs.asked.check_narrow.Tie as tie
+use Rattle.replay_text.proofs.compared.check_narrow.Statement.{statement}
+use Rattle.replay_text.proofs.compared.check_narrow.Tie as tie
 
 fault-requires : tie.Need-fault-requires
 fault-requires c κs = search needs

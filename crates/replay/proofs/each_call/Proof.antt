@@ -1,7 +1,7 @@
 use borrow.Author.Needs.{needs}
 use Prim.Native.Nat.{_-_}
-use Rattle.replay.proofs.calls_of.Statement.{statement}
-use Rattle.replay.proofs.calls_of.Tie as tie
+use Rattle.replay.proofs.each_call.Statement.{statement}
+use Rattle.replay.proofs.each_call.Tie as tie
 
 abbrev Inv-loop : tie.InvT-loop
 Inv-loop buf₀ st₀ sizes deltas words want₀ a₀ b₀ c₀ d₀ work₀ count i₀ buf st want a b c d work i =
@@ -43,8 +43,8 @@ returns c = search needs
 returns-2 : tie.Need-returns-2 Inv-loop μ-loop
 returns-2 c = search needs
 
-pub calls-of-spec : {M : Type 1} → statement M
-calls-of-spec =
+pub each-call-spec : {M : Type 1} → statement M
+each-call-spec =
     tie.close
     (tie.spec
     Inv-loop
