@@ -11,15 +11,27 @@ fn answered(
     words: &[u32],
     part: u32,
     want: &mut [u64; 45056],
-    said: &mut [u64; 8],
     a: &mut [u64],
     b: &mut [u64],
     c: &mut [u32],
     d: &mut [u32],
     work: &mut [u64],
 ) {
-    replay_calls::make(st[CODE], sizes, deltas, words, part, a, b, c, d, work, said);
-    replay_text::compare(buf, st, want, said, a, b, c, d, work);
+    let mut said = [0u64; 8];
+    replay_calls::make(
+        st[CODE],
+        sizes,
+        deltas,
+        words,
+        part,
+        a,
+        b,
+        c,
+        d,
+        work,
+        &mut said,
+    );
+    replay_text::compare(buf, st, want, &said, a, b, c, d, work);
 }
 
 // One call of the list.
@@ -36,7 +48,6 @@ pub fn one(
     d: &mut [u32],
     work: &mut [u64],
 ) {
-    let mut said = [0u64; 8];
     st[CODE] = replay_text::limited(buf, st, 99);
     let part = replay_text::narrow(buf, st, true);
     let ra = replay_text::limited(buf, st, a.len());
@@ -55,7 +66,6 @@ pub fn one(
         words,
         part,
         want,
-        &mut said,
         &mut a[..ra],
         &mut b[..rb],
         &mut c[..rc],

@@ -45,7 +45,7 @@ pub fn compare(
     buf: &mut [u8; 65536],
     st: &mut [usize; 8],
     want: &mut [u64; 45056],
-    said: &[u64],
+    said: &[u64; 8],
     a: &[u64],
     b: &[u64],
     c: &[u32],

@@ -20,4 +20,3 @@ pub use state::ENDS;
 pub use state::FAULT;
 pub use state::PIECE;
 pub use state::count;
-pub use state::fault;

@@ -173,18 +173,18 @@ pub fn first_difference(wanted: &[u64], found: &[u64]) -> Difference
 pub fn first_difference_narrow(wanted: &[u64], found: &[u32]) -> Difference
     ensures { λ r. ⌜ r ≡ difference 0 (now (wanted .entry)) (now (found .entry)) ⌝ }
 {
-    let mut i = 0;
-    while i < wanted.len() {
-        if found.len() <= i {
-            return Difference::At(i);
+    let mut k = 0;
+    while k < wanted.len() {
+        if found.len() <= k {
+            return Difference::At(k);
         }
-        if wanted[i] != found[i] as u64 {
-            return Difference::At(i);
+        if wanted[k] != found[k] as u64 {
+            return Difference::At(k);
         }
-        i += 1;
+        k += 1;
     }
-    if i < found.len() {
-        return Difference::At(i);
+    if k < found.len() {
+        return Difference::At(k);
     }
     Difference::Nothing
 }

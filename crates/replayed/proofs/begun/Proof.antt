@@ -1,3 +1,4 @@
+-- `replayed::begun` meets its contract: a digit, a gap or a word.
 use mathlib.Core.Path.{_≡_, refl, sym, ap, _∙_}
 use mathlib.Core.Bool.{Bool, true, false}
 use Prim.Native.Nat.{ℕ, _+_, _*_, _-_, _^_, _≤_, _<_}
@@ -6,9 +7,6 @@ use Rattle.replayed.proofs.Laws.{digit-low, begun-digit, begun-gap, beg
 use borrow.Author.Needs.{needs}
 use Rattle.replayed.proofs.begun.Statement.{statement}
 use Rattle.replayed.proofs.begun.Tie as tie
-
-is-digit-requires : tie.Need-is-digit-requires
-is-digit-requires c κs = search needs
 
 sub-t5 : tie.Need-sub-t5
 sub-t5 c = digit-low _ (sym (c .before .is-digit .ensures) ∙ c .if1 .taken)
@@ -26,4 +24,4 @@ returns-4 : tie.Need-returns-4
 returns-4 c = sym (begun-word _ _ (sym (c .before .before .before .is-digit .ensures) ∙ c .before .before .if1 .left) (gap-none _ _ (c .before .if2 .left) (c .if3 .left)))
 
 pub begun-spec : {M : Type 1} → statement M
-begun-spec = tie.close (tie.spec is-digit-requires sub-t5 returns returns-2 returns-3 returns-4)
+begun-spec = tie.close (tie.spec (λ c κs. search needs) sub-t5 returns returns-2 returns-3 returns-4)

@@ -1,4 +1,4 @@
--- `replayed::clear` zeroes a l area. The invariant: the first i words are 0, and the others as they were.
+-- `replayed::clear` zeroes an array. The invariant: the first i numbers are 0, and the others as they were.
 use Prim.Native.Nat.{ℕ, _-_, _≤_}
 use mathlib.Core.List.{List, _++_, append-nil}
 use mathlib.Core.Path.{_≡_, refl, ap, _∙_}

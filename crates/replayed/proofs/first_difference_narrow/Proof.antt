@@ -1,3 +1,4 @@
+-- `replayed::first_difference_narrow` meets its contract. The invariant: the first difference from here on is that of the whole lists.
 use Prim.Native.Nat.{ℕ, _+_, _-_, _≤_, _<_}
 use mathlib.Core.Path.{_≡_, refl, sym, ap, _∙_}
 use mathlib.Core.List.{List, [], _∷_, _++_, append-nil}
@@ -9,10 +10,10 @@ use Rattle.replayed.proofs.first_difference_narrow.Statement.{statement
 use Rattle.replayed.proofs.first_difference_narrow.Tie as tie
 
 abbrev Inv-loop : tie.InvT-loop
-Inv-loop wanted found i₀ i = (i ≤ length wanted) × (difference i (drop i wanted) (drop i found) ≡ difference 0 wanted found)
+Inv-loop wanted found k₀ k = (k ≤ length wanted) × (difference k (drop k wanted) (drop k found) ≡ difference 0 wanted found)
 
 abbrev μ-loop : tie.MeasureT-loop
-μ-loop wanted found i₀ i = length wanted - i
+μ-loop wanted found k₀ k = length wanted - k
 
 loop-holds : tie.Need-loop-holds Inv-loop μ-loop
 loop-holds c = (omega arith, refl)
@@ -21,52 +22,31 @@ returns : tie.Need-returns Inv-loop μ-loop
 returns c =
     let at = c .before .before .loop in
     let a = c .before .before .before .args in
-    sym (differ-short (a .wanted .now) (a .found .now) (at .i) (omega arith) (omega arith)) ∙ at .inv .1
-
-mul-if2 : tie.Need-mul-if2 Inv-loop μ-loop
-mul-if2 c = omega arith
-
-shared-slice-read-if2 : tie.Need-shared-slice-read-if2 Inv-loop μ-loop
-shared-slice-read-if2 c = omega arith
-
-mul-if2-2 : tie.Need-mul-if2-2 Inv-loop μ-loop
-mul-if2-2 c = omega arith
-
-shared-slice-read-if2-2 : tie.Need-shared-slice-read-if2-2 Inv-loop μ-loop
-shared-slice-read-if2-2 c = omega arith
-
-cast-if2 : tie.Need-cast-if2 Inv-loop μ-loop
-cast-if2 c = omega (arith, c .shared-slice-known2 .given (c .before .before .before .before .loop .i))
+    sym (differ-short (a .wanted .now) (a .found .now) (at .k) (omega arith) (omega arith)) ∙ at .inv .1
 
 returns-2 : tie.Need-returns-2 Inv-loop μ-loop
 returns-2 c =
     let at = c .before .before .before .before .before .loop in
     let a = c .before .before .before .before .before .before .args in
-    sym (differ-here (a .wanted .now) (a .found .now) (at .i) (omega arith) (omega arith) (c .if2 .taken)) ∙ at .inv .1
-
-add-i : tie.Need-add-i Inv-loop μ-loop
-add-i c = omega arith
-
-loop-less : tie.Need-loop-less Inv-loop μ-loop
-loop-less c = omega arith
+    sym (differ-here (a .wanted .now) (a .found .now) (at .k) (omega arith) (omega arith) (c .if2 .taken)) ∙ at .inv .1
 
 loop-again : tie.Need-loop-again Inv-loop μ-loop
 loop-again c =
     let at = c .before .before .before .before .before .loop in
     let a = c .before .before .before .before .before .before .args in
-    (omega arith, sym (differ-more (a .wanted .now) (a .found .now) (at .i) (omega arith) (omega arith) (c .if2 .left)) ∙ at .inv .1)
+    (omega arith, sym (differ-more (a .wanted .now) (a .found .now) (at .k) (omega arith) (omega arith) (c .if2 .left)) ∙ at .inv .1)
 
 returns-3 : tie.Need-returns-3 Inv-loop μ-loop
 returns-3 c =
     let at = c .before .before .loop in
     let a = c .before .before .before .args in
-    sym (differ-long (a .wanted .now) (a .found .now) (at .i) (omega arith) (omega arith)) ∙ at .inv .1
+    sym (differ-long (a .wanted .now) (a .found .now) (at .k) (omega arith) (omega arith)) ∙ at .inv .1
 
 returns-4 : tie.Need-returns-4 Inv-loop μ-loop
 returns-4 c =
     let at = c .before .before .loop in
     let a = c .before .before .before .args in
-    sym (differ-end (a .wanted .now) (a .found .now) (at .i) (omega arith) (omega arith)) ∙ at .inv .1
+    sym (differ-end (a .wanted .now) (a .found .now) (at .k) (omega arith) (omega arith)) ∙ at .inv .1
 
 pub first-difference-narrow-spec : {M : Type 1} → statement M
 first-difference-narrow-spec =
@@ -76,14 +56,14 @@ first-difference-narrow-spec =
     μ-loop
     loop-holds
     returns
-    mul-if2
-    shared-slice-read-if2
-    mul-if2-2
-    shared-slice-read-if2-2
-    cast-if2
+    (λ c. omega arith)
+    (λ c. omega arith)
+    (λ c. omega arith)
+    (λ c. omega arith)
+    (λ c. omega (arith, c .shared-slice-known2 .given (c .before .before .before .before .loop .k)))
     returns-2
-    add-i
-    loop-less
+    (λ c. omega arith)
+    (λ c. omega arith)
     loop-again
     returns-3
     returns-4)

@@ -1,3 +1,4 @@
+-- `replayed::gone_on` meets its contract: one digit more, the end of the number, or a word.
 use mathlib.Core.Path.{_≡_, refl, sym, ap, _∙_}
 use mathlib.Core.Bool.{Bool, true, false}
 use Prim.Native.Nat.{ℕ, _+_, _*_, _-_, _^_, _≤_, _<_}
@@ -7,20 +8,8 @@ use borrow.Author.Needs.{needs}
 use Rattle.replayed.proofs.gone_on.Statement.{statement}
 use Rattle.replayed.proofs.gone_on.Tie as tie
 
-is-digit-requires : tie.Need-is-digit-requires
-is-digit-requires c κs = search needs
-
 sub-next : tie.Need-sub-next
 sub-next c = digit-low _ (sym (c .before .is-digit .ensures) ∙ c .if1 .taken)
-
-sub-if2 : tie.Need-sub-if2
-sub-if2 c = search needs
-
-mul-t9 : tie.Need-mul-t9
-mul-t9 c = search needs
-
-add-t10 : tie.Need-add-t10
-add-t10 c = search needs
 
 returns : tie.Need-returns
 returns c = let low = digit-low (c .before .before .before .args .byte) (sym (c .before .before .is-digit .ensures) ∙ c .before .if1 .taken) in sym (on-digit _ _ _ (sym (c .before .before .is-digit .ensures) ∙ c .before .if1 .taken) (omega (arith, c .if2 .taken)))
@@ -41,11 +30,11 @@ pub gone-on-spec : {M : Type 1} → statement M
 gone-on-spec =
     tie.close
     (tie.spec
-    is-digit-requires
+    (λ c κs. search needs)
     sub-next
-    sub-if2
-    mul-t9
-    add-t10
+    (λ c. search needs)
+    (λ c. search needs)
+    (λ c. search needs)
     returns
     returns-2
     returns-3

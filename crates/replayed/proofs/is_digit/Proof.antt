@@ -1,3 +1,4 @@
+-- `replayed::is_digit` is a test.
 use borrow.Author.Tests.{le-leb, lt-leb}
 use Rattle.replayed.proofs.is_digit.Statement.{statement}
 use Rattle.replayed.proofs.is_digit.Tie as tie
