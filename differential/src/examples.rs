@@ -26,6 +26,10 @@ pub const EXAMPLES: [Example; 8] = [
 ];
 
 impl Example {
+    pub fn piece(&self) -> Piece {
+        (self.piece)()
+    }
+
     pub fn run(&self) -> Checked {
         let piece = (self.piece)();
         (self.check)(&piece)?;

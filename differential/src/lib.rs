@@ -14,6 +14,7 @@ pub mod examples;
 pub mod generate;
 #[cfg(feature = "library")]
 pub mod library;
+pub mod list;
 pub mod mutate;
 pub mod packed;
 pub mod piece;

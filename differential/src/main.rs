@@ -12,7 +12,7 @@ use differential::piece::Piece;
 use differential::proofread::{self, Library};
 #[cfg(feature = "library")]
 use differential::{arbitrary, bench, compare, shrink};
-use differential::{generate, reference, text};
+use differential::{generate, list, reference, text};
 use std::io::Read;
 use std::process::ExitCode;
 
@@ -23,6 +23,7 @@ const USAGE: &str = "usage: differential COMMAND
   generate SEED COUNT  the reference over generated pieces
   piece SEED INDEX     one generated piece
   short SEED INDEX     one of the short pieces of `sweep`
+  list SEED COUNT      a list of the reference's answers for the program `replay`; coverage on the standard error
   compare SEED COUNT [SECONDS]    the proved library against the reference (feature `library`)
   sweep SEED COUNT [SECONDS]      short pieces in less time: most with exactly enough room alone (feature `library`)
   large                           the same on the benchmark's pieces (feature `library`)
@@ -45,6 +46,12 @@ fn main() -> ExitCode {
         }),
         ["short", seed, index] => number(seed).and_then(|seed| {
             print!("{}", generate::short(seed, number(index)?).print());
+            Ok(())
+        }),
+        ["list", seed, count] => number(seed).and_then(|seed| {
+            let (list, report) = list::of_seed(seed, number(count)?);
+            print!("{list}");
+            eprint!("{report}");
             Ok(())
         }),
         #[cfg(feature = "library")]

@@ -1,0 +1,67 @@
+//! The list's text: decimals, with labels that have no digit before them, each list after its length.
+
+use super::Entry;
+use super::asked::{self, Asked};
+use std::fmt::{Display, Write};
+
+/// The pieces asked with exactly enough and with too little room, too: one in so many, of the shorter ones.
+const NARROW_EVERY: usize = 5;
+const NARROW_LONGEST: usize = 4_000;
+
+pub fn list(entries: &[Entry]) -> String {
+    let mut text = format!("pieces {}\n", entries.len());
+    for (index, entry) in entries.iter().enumerate() {
+        let narrow = index % NARROW_EVERY == 0 && length(entry) <= NARROW_LONGEST;
+        piece(&mut text, index, entry, narrow);
+    }
+    text
+}
+
+/// The length of a piece's text.
+pub fn length(entry: &Entry) -> usize {
+    let mut text = String::new();
+    piece(&mut text, 0, entry, false);
+    text.len()
+}
+
+fn piece(text: &mut String, index: usize, entry: &Entry, narrow: bool) {
+    let piece = &entry.piece;
+    let events = piece.deltas.len().max(piece.words.len());
+    let zeros = piece.deltas.iter().chain(&piece.words).all(|&n| n == 0) && events > 10_000;
+    let zero_count = if zeros { events } else { 0 };
+    writeln!(text, "\npiece {index}, zeros {zero_count}").expect("a string");
+    numbers(text, "sizes", &piece.sizes);
+    let shown = |list| if zeros { &[][..] } else { list };
+    numbers(text, "deltas", shown(&piece.deltas));
+    numbers(text, "words", shown(&piece.words));
+    let calls = asked::of(entry, narrow);
+    writeln!(text, "calls {}", calls.len()).expect("a string");
+    for asked in &calls {
+        call(text, asked);
+    }
+}
+
+fn call(text: &mut String, asked: &Asked) {
+    let asked::Call(name, number, names) = &asked.call;
+    let [a, b, c, d, work] = asked.room;
+    let part = asked.part;
+    let line = format!("{name}, call {number}, part {part}, room {a} {b} {c} {d} {work}, ");
+    text.push_str(&line);
+    numbers(text, "answer", &asked.answer);
+    if asked.lists.iter().all(Vec::is_empty) {
+        text.push_str("none 0 0 0 0\n");
+        return;
+    }
+    for (name, list) in names.iter().zip(&asked.lists) {
+        let name = if name.is_empty() { "none" } else { name };
+        numbers(text, name, list);
+    }
+}
+
+fn numbers<T: Display>(text: &mut String, label: &str, list: &[T]) {
+    write!(text, "{label} {}:", list.len()).expect("a string");
+    for number in list {
+        write!(text, " {number}").expect("a string");
+    }
+    text.push('\n');
+}
