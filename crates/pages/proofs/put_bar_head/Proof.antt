@@ -1,0 +1,61 @@
+use mathlib.Core.List.{_∷_, append-nil}
+use mathlib.Core.Path.{ap}
+use Rattle.pages.specs.Lines.{decimal, meterText, tempoText, fifthsText, keyText, itemEnd, bitKey, wordKeys, soundText, valueText, tiesText, barHead, barMarks}
+use borrow.Author.Tests.{lt-ltb, le-ltb, le-leb, lt-leb, eq-eqb, ne-eqb}
+use native.Mathlib.Omega.{arith}
+use Rattle.pages.proofs.Pages.{adds-eq, adds-keys, text-none, adds-one, text-more, adds-both, adds-most, most-digits, digits-decimal, key-first, key-next, keys-more, no-keys}
+use borrow.Author.Needs.{needs}
+use Rattle.pages.proofs.put_bar_head.Statement.{statement}
+use Rattle.pages.proofs.put_bar_head.Tie as tie
+use Rattle.pages.proofs.put_bar_head.Reads as reads
+use Rattle.pages.proofs.put_bar_head.Lts as lts
+use Rattle.pages.proofs.bar_length.Reads as bar-length-reads
+use Rattle.pages.proofs.put_decimal.Reads as put-decimal-reads
+use Rattle.pages.proofs.put_next.Reads as put-next-reads
+use Rattle.pages.proofs.put_text.Reads as put-text-reads
+
+-- src/lib.rt:265:9
+bar-length-requires : tie.Need-bar-length-requires
+bar-length-requires c κs = search needs
+
+-- src/lib.rt:266:31
+slice-aggregate-put-text : tie.Need-slice-aggregate-put-text
+slice-aggregate-put-text c = search needs
+
+-- src/lib.rt:266:9
+put-text-requires : tie.Need-put-text-requires
+put-text-requires c κs = search needs
+
+-- src/lib.rt:267:9
+put-decimal-requires : tie.Need-put-decimal-requires
+put-decimal-requires c κs = search needs
+
+-- src/lib.rt:268:9
+put-next-requires : tie.Need-put-next-requires
+put-next-requires c κs = search needs
+
+-- src/lib.rt:269:5
+put-next-requires-2 : tie.Need-put-next-requires-2
+put-next-requires-2 c κs = search needs
+
+-- src/lib.rt:261:1
+same-length : tie.Need-same-length
+same-length c = search needs
+
+-- src/lib.rt:261:1
+returns : tie.Need-returns
+unfolding barHead
+returns c = (adds-both (adds-both (adds-both (c .before .before .before .before .before .before .before .before .before .before .before .before .before .before .put-text .ensures) (c .before .before .before .before .before .before .before .before .before .before .put-decimal .ensures)) (c .before .before .before .before .before .before .put-next .ensures)) (adds-eq (ap (λ l. 32 ∷ decimal l) (c .before .before .before .before .before .before .before .before .before .before .before .before .before .before .before .before .before .bar-length .ensures)) (c .before .before .put-next2 .ensures)))
+
+pub put-bar-head-spec : {M : Type 1} → statement M
+put-bar-head-spec =
+    tie.close
+    (tie.spec
+    bar-length-requires
+    slice-aggregate-put-text
+    put-text-requires
+    put-decimal-requires
+    put-next-requires
+    put-next-requires-2
+    same-length
+    returns)

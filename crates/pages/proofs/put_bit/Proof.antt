@@ -1,0 +1,42 @@
+use mathlib.Core.List.{_∷_, append-nil}
+use mathlib.Core.Path.{ap}
+use Rattle.pages.specs.Lines.{decimal, meterText, tempoText, fifthsText, keyText, itemEnd, bitKey, wordKeys, soundText, valueText, tiesText, barHead, barMarks}
+use borrow.Author.Tests.{lt-ltb, le-ltb, le-leb, lt-leb, eq-eqb, ne-eqb}
+use native.Mathlib.Omega.{arith}
+use Rattle.pages.proofs.Pages.{adds-eq, adds-keys, text-none, adds-one, text-more, adds-both, adds-most, most-digits, digits-decimal, key-first, key-next, keys-more, no-keys}
+use borrow.Author.Needs.{needs}
+use Rattle.pages.proofs.put_bit.Statement.{statement}
+use Rattle.pages.proofs.put_bit.Tie as tie
+use Rattle.pages.proofs.put_bit.Reads as reads
+use Rattle.pages.proofs.put_bit.Lts as lts
+use Rattle.pages.proofs.put_key.Reads as put-key-reads
+
+-- src/lib.rt:80:9
+shr-if1 : tie.Need-shr-if1
+shr-if1 c = search needs
+
+-- src/lib.rt:81:35
+add-put-key : tie.Need-add-put-key
+add-put-key c = search needs
+
+-- src/lib.rt:81:9
+put-key-requires : tie.Need-put-key-requires
+put-key-requires c κs = search needs
+
+-- src/lib.rt:81:9
+same-length : tie.Need-same-length
+same-length c = search needs
+
+-- src/lib.rt:81:9
+returns : tie.Need-returns
+unfolding bitKey
+returns c = (c .before .before .put-key .ensures .0, λ t ks h. rw (eq-eqb _ _ (c .before .before .before .before .if1 .taken)) (c .before .before .put-key .ensures .1 t ks h))
+
+-- src/lib.rt:74:1
+returns-2 : tie.Need-returns-2
+unfolding bitKey
+returns-2 c = (omega arith, λ t ks h. rw (ne-eqb _ _ (c .if1 .left), append-nil) h)
+
+pub put-bit-spec : {M : Type 1} → statement M
+put-bit-spec =
+    tie.close (tie.spec shr-if1 add-put-key put-key-requires same-length returns returns-2)

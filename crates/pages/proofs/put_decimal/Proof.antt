@@ -1,0 +1,55 @@
+use Prim.Native.Nat.{_≤_}
+use lib.ListN.{take}
+use mathlib.Core.List.{_++_}
+use mathlib.Core.Path.{ap, _∙_}
+use native.Mathlib.Omega.{arith}
+use Rattle.pages.proofs.Pages.{text-none, adds-one, text-more, adds-both, adds-most, most-digits, digits-decimal, key-first, key-next, keys-more, no-keys}
+use borrow.Author.Needs.{needs}
+use Rattle.pages.proofs.put_decimal.Statement.{statement}
+use Rattle.pages.proofs.put_decimal.Tie as tie
+use Rattle.pages.proofs.put_decimal.Reads as reads
+use Rattle.pages.proofs.put_decimal.Lts as lts
+use Rattle.io.proofs.decimal.Reads as decimal-reads
+use Rattle.pages.proofs.put_text.Reads as put-text-reads
+
+-- src/lib.rt:38:9
+decimal-requires : tie.Need-decimal-requires
+decimal-requires c κs = search needs
+
+-- src/lib.rt:39:23
+array-share-prefix-text : tie.Need-array-share-prefix-text
+array-share-prefix-text c = search needs
+
+-- src/lib.rt:39:23
+slice-aggregate-put-text : tie.Need-slice-aggregate-put-text
+slice-aggregate-put-text c = search needs
+
+-- src/lib.rt:39:5
+put-text-requires : tie.Need-put-text-requires
+put-text-requires c κs = let k : c .before .before .decimal .result ≤ 20 = most-digits _ _ (c .before .before .decimal .ensures .1 .0) (omega arith) in
+    omega (arith, c .before .before .decimal .ensures .0 .1)
+
+-- src/lib.rt:33:1
+same-length : tie.Need-same-length
+same-length c = search needs
+
+-- src/lib.rt:33:1
+returns : tie.Need-returns
+returns c = let d = c .before .before .before .before .before .decimal in
+    let a = c .before .before .before .before .before .before .before .before .args in
+    let k : d .result ≤ 20 = most-digits _ _ (d .ensures .1 .0) (omega arith) in
+    record {
+      text = c .before .before .put-text .ensures .text ∙ ap (λ t. take (a .at) (a .out .now) ++ t) (d .ensures .1 .1 ∙ digits-decimal (a .n) (d .result) (omega arith) (d .ensures .1 .0));
+      grown = omega (arith, c .before .before .put-text .ensures .grown, d .ensures .0 .1);
+    }
+
+pub put-decimal-spec : {M : Type 1} → statement M
+put-decimal-spec =
+    tie.close
+    (tie.spec
+    decimal-requires
+    array-share-prefix-text
+    slice-aggregate-put-text
+    put-text-requires
+    same-length
+    returns)

@@ -1,0 +1,50 @@
+use mathlib.Core.List.{_∷_, append-nil}
+use mathlib.Core.Path.{ap}
+use Rattle.pages.specs.Lines.{decimal, meterText, tempoText, fifthsText, keyText, itemEnd, bitKey, wordKeys, soundText, valueText, tiesText, barHead, barMarks}
+use borrow.Author.Tests.{lt-ltb, le-ltb, le-leb, lt-leb, eq-eqb, ne-eqb}
+use native.Mathlib.Omega.{arith}
+use Rattle.pages.proofs.Pages.{adds-eq, adds-keys, text-none, adds-one, text-more, adds-both, adds-most, most-digits, digits-decimal, key-first, key-next, keys-more, no-keys}
+use borrow.Author.Needs.{needs}
+use Rattle.pages.proofs.put_item.Statement.{statement}
+use Rattle.pages.proofs.put_item.Tie as tie
+use Rattle.pages.proofs.put_item.Reads as reads
+use Rattle.pages.proofs.put_item.Lts as lts
+use Rattle.pages.proofs.put_item_end.Reads as put-item-end-reads
+use Rattle.pages.proofs.put_sound.Reads as put-sound-reads
+use Rattle.pages.proofs.put_ties.Reads as put-ties-reads
+use Rattle.pages.proofs.put_value.Reads as put-value-reads
+
+-- src/lib.rt:163:9
+put-value-requires : tie.Need-put-value-requires
+put-value-requires c κs = search needs
+
+-- src/lib.rt:164:9
+put-ties-requires : tie.Need-put-ties-requires
+put-ties-requires c κs = search needs
+
+-- src/lib.rt:165:9
+put-sound-requires : tie.Need-put-sound-requires
+put-sound-requires c κs = search needs
+
+-- src/lib.rt:166:5
+put-item-end-requires : tie.Need-put-item-end-requires
+put-item-end-requires c κs = search needs
+
+-- src/lib.rt:159:1
+same-length : tie.Need-same-length
+same-length c = search needs
+
+-- src/lib.rt:159:1
+returns : tie.Need-returns
+returns c = adds-most (omega arith) (adds-both (adds-both (adds-both (c .before .before .before .before .before .before .before .before .before .before .before .before .before .before .put-value .ensures) (c .before .before .before .before .before .before .before .before .before .before .put-ties .ensures)) (c .before .before .before .before .before .before .put-sound .ensures)) (c .before .before .put-item-end .ensures))
+
+pub put-item-spec : {M : Type 1} → statement M
+put-item-spec =
+    tie.close
+    (tie.spec
+    put-value-requires
+    put-ties-requires
+    put-sound-requires
+    put-item-end-requires
+    same-length
+    returns)

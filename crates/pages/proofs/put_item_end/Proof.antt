@@ -1,0 +1,53 @@
+use Rattle.pages.specs.Lines.{meterText, tempoText, fifthsText, keyText, itemEnd, bitKey, wordKeys, soundText}
+use borrow.Author.Tests.{lt-ltb, le-ltb, le-leb, lt-leb, eq-eqb, ne-eqb}
+use native.Mathlib.Omega.{arith}
+use Rattle.pages.proofs.Pages.{text-none, adds-one, text-more, adds-both, adds-most, most-digits, digits-decimal, key-first, key-next, keys-more, no-keys}
+use borrow.Author.Needs.{needs}
+use Rattle.pages.proofs.put_item_end.Statement.{statement}
+use Rattle.pages.proofs.put_item_end.Tie as tie
+use Rattle.pages.proofs.put_item_end.Reads as reads
+use Rattle.pages.proofs.put_item_end.Lts as lts
+use Rattle.pages.proofs.put.Reads as put-reads
+use Rattle.pages.proofs.put_text.Reads as put-text-reads
+
+-- src/lib.rt:121:34
+slice-aggregate-put-text : tie.Need-slice-aggregate-put-text
+slice-aggregate-put-text c = search needs
+
+-- src/lib.rt:121:9
+put-text-requires : tie.Need-put-text-requires
+put-text-requires c κs = search needs
+
+-- src/lib.rt:121:9
+same-length : tie.Need-same-length
+same-length c = search needs
+
+-- src/lib.rt:121:9
+returns : tie.Need-returns
+unfolding itemEnd
+returns c = rw (eq-eqb _ _ (c .before .before .before .before .before .if1 .taken)) (c .before .before .put-text .ensures)
+
+-- src/lib.rt:123:5
+put-requires : tie.Need-put-requires
+put-requires c κs = search needs
+
+-- src/lib.rt:116:1
+same-length-2 : tie.Need-same-length-2
+same-length-2 c = search needs
+
+-- src/lib.rt:116:1
+returns-2 : tie.Need-returns-2
+unfolding itemEnd
+returns-2 c = rw (ne-eqb _ _ (c .before .before .before .before .if1 .left)) (adds-most (omega arith) (c .before .before .put .ensures))
+
+pub put-item-end-spec : {M : Type 1} → statement M
+put-item-end-spec =
+    tie.close
+    (tie.spec
+    slice-aggregate-put-text
+    put-text-requires
+    same-length
+    returns
+    put-requires
+    same-length-2
+    returns-2)

@@ -1,0 +1,51 @@
+use Rattle.pages.specs.Lines.{meterText, tempoText, fifthsText, keyText, itemEnd, bitKey, wordKeys, soundText}
+use borrow.Author.Tests.{lt-ltb, le-ltb, le-leb, lt-leb, eq-eqb, ne-eqb}
+use native.Mathlib.Omega.{arith}
+use Rattle.pages.proofs.Pages.{text-none, adds-one, text-more, adds-both, adds-most, most-digits, digits-decimal, key-first, key-next, keys-more, no-keys}
+use borrow.Author.Needs.{needs}
+use Rattle.pages.proofs.put_key.Statement.{statement}
+use Rattle.pages.proofs.put_key.Tie as tie
+use Rattle.pages.proofs.put_key.Reads as reads
+use Rattle.pages.proofs.put_key.Lts as lts
+use Rattle.pages.proofs.put.Reads as put-reads
+use Rattle.pages.proofs.put_decimal.Reads as put-decimal-reads
+
+-- src/lib.rt:65:13
+put-decimal-requires : tie.Need-put-decimal-requires
+put-decimal-requires c κs = search needs
+
+-- src/lib.rt:66:9
+same-length : tie.Need-same-length
+same-length c = search needs
+
+-- src/lib.rt:66:9
+returns : tie.Need-returns
+returns c = (omega (arith, c .before .before .put-decimal .ensures .grown), λ t ks h. key-first t _ ks _ (c .before .before .before .before .if1 .taken) h (c .before .before .put-decimal .ensures))
+
+-- src/lib.rt:68:9
+put-requires : tie.Need-put-requires
+put-requires c κs = search needs
+
+-- src/lib.rt:69:9
+put-decimal-requires-2 : tie.Need-put-decimal-requires-2
+put-decimal-requires-2 c κs = search needs
+
+-- src/lib.rt:58:1
+same-length-2 : tie.Need-same-length-2
+same-length-2 c = search needs
+
+-- src/lib.rt:58:1
+returns-2 : tie.Need-returns-2
+returns-2 c = (omega (arith, c .before .before .put-decimal2 .ensures .grown, c .before .before .before .before .before .before .put .ensures .grown), λ t ks h. key-next t _ ks _ (c .before .before .before .before .before .before .before .before .if1 .left) h (adds-both (c .before .before .before .before .before .before .put .ensures) (c .before .before .put-decimal2 .ensures)))
+
+pub put-key-spec : {M : Type 1} → statement M
+put-key-spec =
+    tie.close
+    (tie.spec
+    put-decimal-requires
+    same-length
+    returns
+    put-requires
+    put-decimal-requires-2
+    same-length-2
+    returns-2)

@@ -1,0 +1,76 @@
+use mathlib.Core.Path.{subst, _∙_}
+use Rattle.pages.proofs.Pages.{adds-eq, adds-keys, text-none, adds-one, text-more, adds-both, adds-most, most-digits, digits-decimal, key-first, key-next, keys-more, no-keys}
+use Rattle.pages.specs.Lines.{Keyed}
+use Prim.Native.Nat.{ℕ}
+use mathlib.Core.List.{_++_, List, append-nil}
+use lib.ListN.{length}
+use mathlib.Core.Path.{_≡_}
+use Prim.Native.Nat.{_+_, _-_, _*_, _≤_}
+use Rattle.pages.specs.Lines.{meterText, tempoText, fifthsText, keyText, itemEnd, bitKey, wordKeys, soundText}
+use borrow.Author.Tests.{lt-ltb, le-ltb, le-leb, lt-leb, eq-eqb, ne-eqb}
+use native.Mathlib.Omega.{arith}
+use Rattle.pages.proofs.Pages.{text-none, adds-one, text-more, adds-both, adds-most, most-digits, digits-decimal, key-first, key-next, keys-more, no-keys}
+use Rattle.pages.proofs.put_keys.Statement.{statement}
+use Rattle.pages.proofs.put_keys.Tie as tie
+use Rattle.pages.proofs.put_keys.Reads as reads
+use Rattle.pages.proofs.put_keys.Lts as lts
+use Rattle.pages.proofs.put_bit.Reads as put-bit-reads
+
+abbrev Inv-loop : tie.InvT-loop
+Inv-loop out₀ word base spot₀ k₀ out spot k = (k ≤ 64) × (length out ≡ length out₀) × (spot .at ≤ spot₀ .at + 21 * k)
+    × ((t ks : List ℕ) → Keyed t ks (spot₀ .at) (spot₀ .none) out₀ → Keyed t (ks ++ wordKeys k word base) (spot .at) (spot .none) out)
+
+abbrev μ-loop : tie.MeasureT-loop
+μ-loop out₀ word base spot₀ k₀ out spot k = 64 - k
+
+-- src/lib.rt:95:5
+loop-holds : tie.Need-loop-holds Inv-loop μ-loop
+unfolding wordKeys
+loop-holds c = (omega arith, omega arith, omega arith, λ t ks h. rw append-nil h)
+
+-- src/lib.rt:96:9
+put-bit-requires : tie.Need-put-bit-requires Inv-loop μ-loop
+put-bit-requires c κs = omega arith
+
+-- src/lib.rt:97:9
+add-k : tie.Need-add-k Inv-loop μ-loop
+add-k c = omega arith
+
+-- src/lib.rt:95:5
+loop-less : tie.Need-loop-less Inv-loop μ-loop
+loop-less c = omega arith
+
+-- src/lib.rt:95:5
+loop-again : tie.Need-loop-again Inv-loop μ-loop
+loop-again c = let l = c .before .before .before .before .before .loop in
+    let a = c .before .before .before .before .before .before .before .args in (
+      omega arith,
+      c .before .before .put-bit .kept .0 ∙ l .inv .1,
+      omega (arith, c .before .before .put-bit .ensures .0),
+      λ t ks h. keys-more ks (l .k) (a .word) (a .base) (c .before .before .put-bit .ensures .1 t (ks ++ wordKeys (l .k) (a .word) (a .base)) (l .inv .3 t ks h)),
+    )
+
+-- src/lib.rt:87:1
+same-length : tie.Need-same-length Inv-loop μ-loop
+same-length c = omega arith
+
+-- src/lib.rt:87:1
+returns : tie.Need-returns Inv-loop μ-loop
+returns c = let l = c .before .loop in
+    let a = c .before .before .before .args in
+    let e : l .k ≡ 64 = omega arith in
+    (omega arith, λ t ks h. subst (λ n. Keyed t (ks ++ wordKeys n (a .word) (a .base)) (l .spot .at) (l .spot .none) (l .out)) e (l .inv .3 t ks h))
+
+pub put-keys-spec : {M : Type 1} → statement M
+put-keys-spec =
+    tie.close
+    (tie.spec
+    Inv-loop
+    μ-loop
+    loop-holds
+    put-bit-requires
+    add-k
+    loop-less
+    loop-again
+    same-length
+    returns)

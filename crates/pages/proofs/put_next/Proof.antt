@@ -1,0 +1,28 @@
+use native.Mathlib.Omega.{arith}
+use Rattle.pages.proofs.Pages.{text-none, adds-one, text-more, adds-both, adds-most, most-digits, digits-decimal, key-first, key-next, keys-more, no-keys}
+use borrow.Author.Needs.{needs}
+use Rattle.pages.proofs.put_next.Statement.{statement}
+use Rattle.pages.proofs.put_next.Tie as tie
+use Rattle.pages.proofs.put_next.Reads as reads
+use Rattle.pages.proofs.put_next.Lts as lts
+use Rattle.pages.proofs.put.Reads as put-reads
+use Rattle.pages.proofs.put_decimal.Reads as put-decimal-reads
+
+-- src/lib.rt:47:9
+put-requires : tie.Need-put-requires
+put-requires c κs = search needs
+
+-- src/lib.rt:48:5
+put-decimal-requires : tie.Need-put-decimal-requires
+put-decimal-requires c κs = search needs
+
+-- src/lib.rt:43:1
+same-length : tie.Need-same-length
+same-length c = search needs
+
+-- src/lib.rt:43:1
+returns : tie.Need-returns
+returns c = adds-both (c .before .before .before .before .before .before .put .ensures) (c .before .before .put-decimal .ensures)
+
+pub put-next-spec : {M : Type 1} → statement M
+put-next-spec = tie.close (tie.spec put-requires put-decimal-requires same-length returns)

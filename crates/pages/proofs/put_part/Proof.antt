@@ -1,0 +1,66 @@
+use mathlib.Core.List.{_∷_, append-nil}
+use mathlib.Core.Path.{ap}
+use Rattle.pages.specs.Lines.{decimal, meterText, tempoText, fifthsText, keyText, itemEnd, bitKey, wordKeys, soundText, valueText, tiesText, barHead, barMarks}
+use Rattle.pages.proofs.Pages.{adds-eq, adds-keys, text-none, adds-one, text-more, adds-both, adds-most, most-digits, digits-decimal, key-first, key-next, keys-more, no-keys}
+use Rattle.pages.specs.Lines.{meterText, tempoText, fifthsText, keyText, itemEnd, bitKey, wordKeys, soundText}
+use borrow.Author.Tests.{lt-ltb, le-ltb, le-leb, lt-leb, eq-eqb, ne-eqb}
+use native.Mathlib.Omega.{arith}
+use Rattle.pages.proofs.Pages.{text-none, adds-one, text-more, adds-both, adds-most, most-digits, digits-decimal, key-first, key-next, keys-more, no-keys}
+use borrow.Author.Needs.{needs}
+use Rattle.pages.proofs.put_part.Statement.{statement}
+use Rattle.pages.proofs.put_part.Tie as tie
+use Rattle.pages.proofs.put_part.Reads as reads
+use Rattle.pages.proofs.put_part.Lts as lts
+use Rattle.pages.proofs.put.Reads as put-reads
+use Rattle.pages.proofs.put_decimal.Reads as put-decimal-reads
+use Rattle.pages.proofs.put_text.Reads as put-text-reads
+
+-- src/lib.rt:154:31
+slice-aggregate-put-text : tie.Need-slice-aggregate-put-text
+slice-aggregate-put-text c = search needs
+
+-- src/lib.rt:154:9
+put-text-requires : tie.Need-put-text-requires
+put-text-requires c κs = search needs
+
+-- src/lib.rt:155:9
+put-decimal-requires : tie.Need-put-decimal-requires
+put-decimal-requires c κs = search needs
+
+-- src/lib.rt:156:30
+slice-aggregate-put-text-2 : tie.Need-slice-aggregate-put-text-2
+slice-aggregate-put-text-2 c = search needs
+
+-- src/lib.rt:156:9
+put-text-requires-2 : tie.Need-put-text-requires-2
+put-text-requires-2 c κs = search needs
+
+-- src/lib.rt:157:9
+put-decimal-requires-2 : tie.Need-put-decimal-requires-2
+put-decimal-requires-2 c κs = search needs
+
+-- src/lib.rt:158:5
+put-requires : tie.Need-put-requires
+put-requires c κs = search needs
+
+-- src/lib.rt:150:1
+same-length : tie.Need-same-length
+same-length c = search needs
+
+-- src/lib.rt:150:1
+returns : tie.Need-returns
+returns c = adds-most (omega arith) (adds-both (adds-both (adds-both (c .before .before .before .before .before .before .before .before .before .before .before .before .before .before .before .before .before .before .before .put-text .ensures) (c .before .before .before .before .before .before .before .before .before .before .before .before .before .before .before .put-decimal .ensures)) (adds-both (c .before .before .before .before .before .before .before .before .before .before .put-text2 .ensures) (c .before .before .before .before .before .before .put-decimal2 .ensures))) (c .before .before .put .ensures))
+
+pub put-part-spec : {M : Type 1} → statement M
+put-part-spec =
+    tie.close
+    (tie.spec
+    slice-aggregate-put-text
+    put-text-requires
+    put-decimal-requires
+    slice-aggregate-put-text-2
+    put-text-requires-2
+    put-decimal-requires-2
+    put-requires
+    same-length
+    returns)

@@ -1,0 +1,47 @@
+use Rattle.pages.specs.Lines.{meterText, tempoText, fifthsText, keyText, itemEnd, bitKey, wordKeys, soundText}
+use borrow.Author.Tests.{lt-ltb, le-ltb, le-leb, lt-leb, eq-eqb, ne-eqb}
+use native.Mathlib.Omega.{arith}
+use Rattle.pages.proofs.Pages.{text-none, adds-one, text-more, adds-both, adds-most, most-digits, digits-decimal, key-first, key-next, keys-more, no-keys}
+use borrow.Author.Needs.{needs}
+use Rattle.pages.proofs.put_refused.Statement.{statement}
+use Rattle.pages.proofs.put_refused.Tie as tie
+use Rattle.pages.proofs.put_refused.Reads as reads
+use Rattle.pages.proofs.put_refused.Lts as lts
+use Rattle.pages.proofs.put.Reads as put-reads
+use Rattle.pages.proofs.put_decimal.Reads as put-decimal-reads
+use Rattle.pages.proofs.put_text.Reads as put-text-reads
+
+-- src/lib.rt:166:31
+slice-aggregate-put-text : tie.Need-slice-aggregate-put-text
+slice-aggregate-put-text c = search needs
+
+-- src/lib.rt:166:9
+put-text-requires : tie.Need-put-text-requires
+put-text-requires c κs = search needs
+
+-- src/lib.rt:167:9
+put-decimal-requires : tie.Need-put-decimal-requires
+put-decimal-requires c κs = search needs
+
+-- src/lib.rt:168:5
+put-requires : tie.Need-put-requires
+put-requires c κs = search needs
+
+-- src/lib.rt:162:1
+same-length : tie.Need-same-length
+same-length c = search needs
+
+-- src/lib.rt:162:1
+returns : tie.Need-returns
+returns c = adds-most (omega arith) (adds-both (c .before .before .before .before .before .before .before .before .before .before .put-text .ensures) (adds-both (c .before .before .before .before .before .before .put-decimal .ensures) (c .before .before .put .ensures)))
+
+pub put-refused-spec : {M : Type 1} → statement M
+put-refused-spec =
+    tie.close
+    (tie.spec
+    slice-aggregate-put-text
+    put-text-requires
+    put-decimal-requires
+    put-requires
+    same-length
+    returns)

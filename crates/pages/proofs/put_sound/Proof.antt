@@ -1,0 +1,65 @@
+use lib.ListN.{take}
+use mathlib.Core.List.{[]}
+use mathlib.Core.List.{_∷_, append-nil}
+use mathlib.Core.Path.{ap}
+use Rattle.pages.specs.Lines.{decimal, meterText, tempoText, fifthsText, keyText, itemEnd, bitKey, wordKeys, soundText, valueText, tiesText, barHead, barMarks}
+use borrow.Author.Tests.{lt-ltb, le-ltb, le-leb, lt-leb, eq-eqb, ne-eqb}
+use native.Mathlib.Omega.{arith}
+use Rattle.pages.proofs.Pages.{adds-eq, adds-keys, text-none, adds-one, text-more, adds-both, adds-most, most-digits, digits-decimal, key-first, key-next, keys-more, no-keys}
+use borrow.Author.Needs.{needs}
+use Rattle.pages.proofs.put_sound.Statement.{statement}
+use Rattle.pages.proofs.put_sound.Tie as tie
+use Rattle.pages.proofs.put_sound.Reads as reads
+use Rattle.pages.proofs.put_sound.Lts as lts
+use Rattle.pages.proofs.put_keys.Reads as put-keys-reads
+use Rattle.pages.proofs.put_text.Reads as put-text-reads
+
+-- src/lib.rt:108:34
+slice-aggregate-put-text : tie.Need-slice-aggregate-put-text
+slice-aggregate-put-text c = search needs
+
+-- src/lib.rt:108:9
+put-text-requires : tie.Need-put-text-requires
+put-text-requires c κs = search needs
+
+-- src/lib.rt:108:9
+same-length : tie.Need-same-length
+same-length c = search needs
+
+-- src/lib.rt:108:9
+returns : tie.Need-returns
+unfolding soundText
+returns c = rw (eq-eqb _ _ (c .before .before .before .before .before .if1 .taken)) (adds-most (omega arith) (c .before .before .put-text .ensures))
+
+-- src/lib.rt:110:9
+put-keys-requires : tie.Need-put-keys-requires
+put-keys-requires c κs = search needs
+
+-- src/lib.rt:111:9
+put-keys-requires-2 : tie.Need-put-keys-requires-2
+put-keys-requires-2 c κs = search needs
+
+-- src/lib.rt:103:1
+same-length-2 : tie.Need-same-length-2
+same-length-2 c = search needs
+
+-- src/lib.rt:103:1
+returns-2 : tie.Need-returns-2
+unfolding soundText
+returns-2 c = let a = c .before .before .before .before .before .before .before .before .before .before .args in
+    rw (ne-eqb _ _ (c .before .before .before .before .before .before .before .before .if1 .left))
+    (adds-keys (omega (arith, c .before .before .put-keys2 .ensures .0, c .before .before .before .before .before .before .put-keys .ensures .0))
+    (c .before .before .put-keys2 .ensures .1 _ _ (c .before .before .before .before .before .before .put-keys .ensures .1 (take (a .at) (a .out .now)) [] (no-keys (a .at) (a .out .now)))))
+
+pub put-sound-spec : {M : Type 1} → statement M
+put-sound-spec =
+    tie.close
+    (tie.spec
+    slice-aggregate-put-text
+    put-text-requires
+    same-length
+    returns
+    put-keys-requires
+    put-keys-requires-2
+    same-length-2
+    returns-2)

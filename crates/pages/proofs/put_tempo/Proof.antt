@@ -1,0 +1,42 @@
+use Rattle.pages.specs.Lines.{meterText, tempoText, fifthsText, keyText, itemEnd, bitKey, wordKeys, soundText}
+use borrow.Author.Tests.{lt-ltb, le-ltb, le-leb, lt-leb, eq-eqb, ne-eqb}
+use native.Mathlib.Omega.{arith}
+use Rattle.pages.proofs.Pages.{text-none, adds-one, text-more, adds-both, adds-most, most-digits, digits-decimal, key-first, key-next, keys-more, no-keys}
+use borrow.Author.Needs.{needs}
+use Rattle.pages.proofs.put_tempo.Statement.{statement}
+use Rattle.pages.proofs.put_tempo.Tie as tie
+use Rattle.pages.proofs.put_tempo.Reads as reads
+use Rattle.pages.proofs.put_tempo.Lts as lts
+use Rattle.pages.proofs.put.Reads as put-reads
+use Rattle.pages.proofs.put_decimal.Reads as put-decimal-reads
+
+-- src/lib.rt:207:9
+put-requires : tie.Need-put-requires
+put-requires c κs = search needs
+
+-- src/lib.rt:207:9
+same-length : tie.Need-same-length
+same-length c = search needs
+
+-- src/lib.rt:207:9
+returns : tie.Need-returns
+unfolding tempoText
+returns c = rw (eq-eqb _ _ (c .before .before .before .before .if1 .taken)) (adds-most (omega arith) (c .before .before .put .ensures))
+
+-- src/lib.rt:209:5
+put-decimal-requires : tie.Need-put-decimal-requires
+put-decimal-requires c κs = search needs
+
+-- src/lib.rt:201:1
+same-length-2 : tie.Need-same-length-2
+same-length-2 c = search needs
+
+-- src/lib.rt:201:1
+returns-2 : tie.Need-returns-2
+unfolding tempoText
+returns-2 c = rw (ne-eqb _ _ (c .before .before .before .before .if1 .left)) (c .before .before .put-decimal .ensures)
+
+pub put-tempo-spec : {M : Type 1} → statement M
+put-tempo-spec =
+    tie.close
+    (tie.spec put-requires same-length returns put-decimal-requires same-length-2 returns-2)

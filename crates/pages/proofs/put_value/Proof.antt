@@ -1,0 +1,54 @@
+use mathlib.Core.List.{_∷_, append-nil}
+use mathlib.Core.Path.{ap}
+use Rattle.pages.specs.Lines.{decimal, meterText, tempoText, fifthsText, keyText, itemEnd, bitKey, wordKeys, soundText, valueText, tiesText, barHead, barMarks}
+use borrow.Author.Tests.{lt-ltb, le-ltb, le-leb, lt-leb, eq-eqb, ne-eqb}
+use native.Mathlib.Omega.{arith}
+use Rattle.pages.proofs.Pages.{adds-eq, adds-keys, text-none, adds-one, text-more, adds-both, adds-most, most-digits, digits-decimal, key-first, key-next, keys-more, no-keys}
+use borrow.Author.Needs.{needs}
+use Rattle.pages.proofs.put_value.Statement.{statement}
+use Rattle.pages.proofs.put_value.Tie as tie
+use Rattle.pages.proofs.put_value.Reads as reads
+use Rattle.pages.proofs.put_value.Lts as lts
+use Rattle.pages.proofs.put_decimal.Reads as put-decimal-reads
+use Rattle.pages.proofs.put_next.Reads as put-next-reads
+
+-- src/lib.rt:142:9
+put-decimal-requires : tie.Need-put-decimal-requires
+put-decimal-requires c κs = search needs
+
+-- src/lib.rt:143:30
+cast-put-next : tie.Need-cast-put-next
+cast-put-next c = search needs
+
+-- src/lib.rt:143:9
+put-next-requires : tie.Need-put-next-requires
+put-next-requires c κs = search needs
+
+-- src/lib.rt:144:22
+cast-put-next-2 : tie.Need-cast-put-next-2
+cast-put-next-2 c = search needs
+
+-- src/lib.rt:144:5
+put-next-requires-2 : tie.Need-put-next-requires-2
+put-next-requires-2 c κs = search needs
+
+-- src/lib.rt:138:1
+same-length : tie.Need-same-length
+same-length c = search needs
+
+-- src/lib.rt:138:1
+returns : tie.Need-returns
+unfolding valueText
+returns c = (adds-both (adds-both (c .before .before .before .before .before .before .before .before .before .before .put-decimal .ensures) (c .before .before .before .before .before .before .put-next .ensures)) (c .before .before .put-next2 .ensures))
+
+pub put-value-spec : {M : Type 1} → statement M
+put-value-spec =
+    tie.close
+    (tie.spec
+    put-decimal-requires
+    cast-put-next
+    put-next-requires
+    cast-put-next-2
+    put-next-requires-2
+    same-length
+    returns)

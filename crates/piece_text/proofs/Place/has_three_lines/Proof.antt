@@ -1,0 +1,25 @@
+use borrow.Author.Tests.{lt-ltb, le-ltb, le-leb, lt-leb, eq-eqb, ne-eqb}
+use borrow.Author.Needs.{needs}
+use Rattle.piece_text.proofs.Place.has_three_lines.Statement.{statement}
+use Rattle.piece_text.proofs.Place.has_three_lines.Tie as tie
+use Rattle.piece_text.proofs.Place.has_three_lines.Reads as reads
+use Rattle.piece_text.proofs.Place.has_three_lines.Lts as lts
+
+-- src/lib.rt:148:13
+returns : tie.Need-returns
+returns c = search needs
+
+-- src/lib.rt:151:13
+returns-2 : tie.Need-returns-2
+returns-2 c = simp (c .before .before .if1 .left, eq-eqb _ _ (c .if2 .taken))
+
+-- src/lib.rt:154:13
+returns-3 : tie.Need-returns-3
+returns-3 c = simp (c .before .before .before .before .if1 .left, ne-eqb _ _ (c .before .before .if2 .left), eq-eqb _ _ (c .if3 .taken))
+
+-- src/lib.rt:144:5
+returns-4 : tie.Need-returns-4
+returns-4 c = simp (c .before .before .before .before .if1 .left, ne-eqb _ _ (c .before .before .if2 .left), ne-eqb _ _ (c .if3 .left))
+
+pub has-three-lines-spec : {M : Type 1} → statement M
+has-three-lines-spec = tie.close (tie.spec returns returns-2 returns-3 returns-4)

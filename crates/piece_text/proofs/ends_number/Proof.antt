@@ -1,0 +1,23 @@
+use mathlib.Core.Path.{_∙_, sym}
+use borrow.Author.Tests.{lt-ltb, le-ltb, le-leb, lt-leb, eq-eqb, ne-eqb}
+use borrow.Author.Needs.{needs}
+use Rattle.piece_text.proofs.ends_number.Statement.{statement}
+use Rattle.piece_text.proofs.ends_number.Tie as tie
+use Rattle.piece_text.proofs.ends_number.Reads as reads
+use Rattle.piece_text.proofs.ends_number.Lts as lts
+use Rattle.piece_text.proofs.is_blank.Reads as is-blank-reads
+
+-- src/lib.rt:63:8
+is-blank-requires : tie.Need-is-blank-requires
+is-blank-requires c κs = search needs
+
+-- src/lib.rt:64:9
+returns : tie.Need-returns
+returns c = simp (sym (c .before .is-blank .ensures) ∙ c .if1 .taken)
+
+-- src/lib.rt:60:1
+returns-2 : tie.Need-returns-2
+returns-2 c = simp (sym (c .before .is-blank .ensures) ∙ c .if1 .left)
+
+pub ends-number-spec : {M : Type 1} → statement M
+ends-number-spec = tie.close (tie.spec is-blank-requires returns returns-2)

@@ -1,0 +1,16 @@
+use borrow.Author.Tests.{lt-ltb, le-ltb, le-leb, lt-leb, eq-eqb, ne-eqb}
+use Rattle.piece_text.proofs.is_digit.Statement.{statement}
+use Rattle.piece_text.proofs.is_digit.Tie as tie
+use Rattle.piece_text.proofs.is_digit.Reads as reads
+use Rattle.piece_text.proofs.is_digit.Lts as lts
+
+-- src/lib.rt:43:9
+returns : tie.Need-returns
+returns c = simp (lt-leb _ _ (c .if1 .taken))
+
+-- src/lib.rt:39:1
+returns-2 : tie.Need-returns-2
+returns-2 c = simp (le-leb _ _ (c .if1 .left))
+
+pub is-digit-spec : {M : Type 1} → statement M
+is-digit-spec = tie.close (tie.spec returns returns-2)
