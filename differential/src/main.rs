@@ -135,6 +135,11 @@ fn examples() -> Result<(), String> {
             }
         }
     }
+    #[cfg(feature = "library")]
+    {
+        compare::values::all()?;
+        println!("ok beats of every value and spelling of every key");
+    }
     match differing {
         0 => Ok(()),
         _ => Err(format!("{differing} examples differ")),

@@ -9,6 +9,7 @@ mod bars;
 mod diagnostics;
 mod heads;
 mod staffs;
+pub mod values;
 
 use crate::answers::{Answers, Import};
 use crate::checked::Checked;

@@ -57,10 +57,28 @@ pub struct Reading {
     pub right: u32,
 }
 
+#[repr(C)]
+#[derive(Debug, Clone, Copy, PartialEq, Default)]
+pub struct Beats {
+    pub number: u32,
+    pub beats: f64,
+}
+
+#[repr(C)]
+#[derive(Debug, Clone, Copy, PartialEq, Eq, Default)]
+pub struct Spelling {
+    pub number: u32,
+    pub step: u32,
+    pub octave: i32,
+    pub alter: i32,
+}
+
 type Words = *const u32;
 
 #[rustfmt::skip]
 unsafe extern "C" {
+    fn acorde_beats(code: u32, dots: u32) -> Beats;
+    fn acorde_spelling(key: u32) -> Spelling;
     fn acorde_head(s: Words, sn: usize, d: Words, dn: usize, w: Words, wn: usize) -> Head;
     fn acorde_part_count(s: Words, sn: usize, d: Words, dn: usize, w: Words, wn: usize) -> Count;
     fn acorde_part_head(s: Words, sn: usize, d: Words, dn: usize, w: Words, wn: usize, part: u32) -> PartHead;
@@ -146,6 +164,16 @@ macro_rules! call {
     }};
     // The arrays are borrowed for the whole call, no two of them are one, and the lengths are theirs.
     (@ $entry:ident, ($($argument:expr),*),) => { unsafe { $entry($($argument),*) } };
+}
+
+pub fn beats(code: u32, dots: u32) -> Beats {
+    // Numbers alone are passed.
+    unsafe { acorde_beats(code, dots) }
+}
+
+pub fn spelling(key: u32) -> Spelling {
+    // As above.
+    unsafe { acorde_spelling(key) }
 }
 
 pub fn head(given: &Given) -> Head {
