@@ -15,16 +15,9 @@ use Rattle.laws.specs.Admitted.{Passes, Admitted}
 use Rattle.laws.proofs.Lists.{All-append, All-left}
 use Rattle.laws.proofs.Refusals.{admitted, passes-append, number-first, number-after, number-refused, number-passes}
 use Rattle.piece.proofs.Numbers.{passes, piece-numbers}
+use Rattle.door.proofs.Door.{none-empty, some-left}
 use Rattle.calls.specs.declared.Entry.{Entry}
 use Rattle.calls.specs.Answers.{Entered}
-
-none-empty : {A : Type 0} (xs : List A) → length xs ≡ 0 → isEmpty xs ≡ true
-none-empty [] h = refl
-none-empty (x ∷ xs) h = absurd (omega arith)
-
-some-left : {A : Type 0} (xs : List A) → (length xs ≡ 0 → ⊥) → isEmpty xs ≡ false
-some-left [] h = absurd (h refl)
-some-left (x ∷ xs) h = refl
 
 module _ (x : Piece) where
   pub entered-refused : (n : ℕ) → n ≡ firstNumber (pieceRefusals x) → (n ≡ 0 → ⊥) → Entered x (record { number = n; parts = 0; most = 0 })
