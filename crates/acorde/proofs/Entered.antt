@@ -8,14 +8,13 @@ use Rattle.rules.specs.Automation.{AutomationLists}
 use Rattle.rules.specs.Calls.{BarLists, BarsCalled, StaffSize, StaffSizeCalled, EngraveCalled, AutomationCounts, AutomationCalled, DiagnosticsCalled, ProofReadCalled}
 use Rattle.rules.specs.Diagnostics.{Diagnostic}
 use Rattle.rules.specs.Items.{StaffArrays}
-use Rattle.rules.specs.Refusals.{Result, refused, given}
-use Rattle.laws.specs.Exact.{Is256}
+use Rattle.rules.specs.Refusals.{Result, refused, given, asItIs}
 use Rattle.duration.specs.Calls.{Exactly}
 use lib.Ieee.{Float, fin}
 use Rattle.acorde.specs.Values.{BeatsEntered}
 use Rattle.changes.specs.declared.Head.{Head}
-use Rattle.calls.specs.Answers.{headOf}
-use Rattle.acorde.specs.Entries.{headValues, headEntry, countEntry, BarsEntered, automationEntry, AutomationEntered, DiagnosticsEntered, staffEntry, StaffSizeEntered, EngraveEntered, readingEntry, ProofReadEntered}
+use Rattle.heads.specs.Answers.{headOf}
+use Rattle.acorde.specs.Entries.{headValues, headEntry, countEntry, automationEntry, staffEntry, readingEntry}
 
 -- a key that is absent has its fields 0
 pub head-entry : (h : Head) → (h .«has_key» ≡ false → (h .fifths ≡ pos 0) × (h .minor ≡ false)) → headValues h ≡ headEntry (given (headOf h))
@@ -25,33 +24,33 @@ head-entry h absent = go (h .«has_key») refl
     go true e = rw e
     go false e = rw (e, absent e .0, absent e .1)
 
-pub bars-entered : {r : Result BarLists} {starts marks starts₁ marks₁ : List ℕ} {a b : Result ℕ} → a ≡ b → BarsCalled r starts marks b starts₁ marks₁
-    → BarsEntered r starts marks (countEntry a) starts₁ marks₁
+pub bars-entered : {r : Result BarLists} {starts marks starts₁ marks₁ : List ℕ} {a b : Result ℕ} → a ≡ b → BarsCalled asItIs r starts marks b starts₁ marks₁
+    → BarsCalled countEntry r starts marks (countEntry a) starts₁ marks₁
 bars-entered e called =
     record { answered = ap countEntry (e ∙ called .answered); starts = called .starts; marks = called .marks }
 
 pub automation-entered : {r : Result AutomationLists} {ticks words ticks₁ words₁ : List ℕ} {a b : Result AutomationCounts} → a ≡ b
-    → AutomationCalled r ticks words b ticks₁ words₁ → AutomationEntered r ticks words (automationEntry a) ticks₁ words₁
+    → AutomationCalled asItIs r ticks words b ticks₁ words₁ → AutomationCalled automationEntry r ticks words (automationEntry a) ticks₁ words₁
 automation-entered e called =
     record { answered = ap automationEntry (e ∙ called .answered); ticks = called .ticks; words = called .words }
 
 pub diagnostics-entered : {r : Result (List Diagnostic)} {places details work places₁ details₁ work₁ : List ℕ} {a b : Result ℕ} → a ≡ b
-    → DiagnosticsCalled r places details work b places₁ details₁ work₁ → DiagnosticsEntered r places details work (countEntry a) places₁ details₁ work₁
+    → DiagnosticsCalled asItIs r places details work b places₁ details₁ work₁ → DiagnosticsCalled countEntry r places details work (countEntry a) places₁ details₁ work₁
 diagnostics-entered e called =
     record { answered = ap countEntry (e ∙ called .answered); places = called .places; details = called .details; work = called .work }
 
 pub engrave-entered : {size : StaffSize} {r : Result StaffArrays} {counts heads keys work counts₁ heads₁ keys₁ work₁ : List ℕ} {a b : Result StaffSize} → a ≡ b
-    → EngraveCalled size r counts heads keys work b counts₁ heads₁ keys₁ work₁
-    → EngraveEntered size r counts heads keys work (staffEntry a) counts₁ heads₁ keys₁ work₁
+    → EngraveCalled asItIs size r counts heads keys work b counts₁ heads₁ keys₁ work₁
+    → EngraveCalled staffEntry size r counts heads keys work (staffEntry a) counts₁ heads₁ keys₁ work₁
 engrave-entered e o =
     record { answered = ap staffEntry (e ∙ o .answered); counts = o .counts; heads = o .heads; keys = o .keys; work = o .work }
 
-pub size-entered : {r : Result StaffSize} {work work₁ : List ℕ} {a b : Result StaffSize} → a ≡ b → StaffSizeCalled r work b work₁
-    → StaffSizeEntered r work (staffEntry a) work₁
+pub size-entered : {r : Result StaffSize} {work work₁ : List ℕ} {a b : Result StaffSize} → a ≡ b → StaffSizeCalled asItIs r work b work₁
+    → StaffSizeCalled staffEntry r work (staffEntry a) work₁
 size-entered e o = record { answered = ap staffEntry (e ∙ o .answered); work = o .work }
 
-pub read-entered : {r : Result Bool} {work work₁ : List ℕ} {a b : Result Bool} → a ≡ b → ProofReadCalled r work b work₁
-    → ProofReadEntered r work (readingEntry a) work₁
+pub read-entered : {r : Result Bool} {work work₁ : List ℕ} {a b : Result Bool} → a ≡ b → ProofReadCalled asItIs r work b work₁
+    → ProofReadCalled readingEntry r work (readingEntry a) work₁
 read-entered e o = record { answered = ap readingEntry (e ∙ o .answered); work = o .work }
 
 -- ---- a value's beats

@@ -2,20 +2,20 @@
 ghost use mathlib.Core.Path.{_≡_};
 ghost use Rattle.rules.specs.Lists.{flag};
 ghost use Rattle.rules.specs.Piece.{piece};
-ghost use Rattle.rules.specs.Calls.{headCall, partCountCall, partHeadCall, barsCall, automationCall, diagnosticsCall, partSize, staffSizeCall, engraveCall, proofReadCall};
+ghost use Rattle.rules.specs.Calls.{headCall, partCountCall, partHeadCall, barsCall, automationCall, diagnosticsCall, partSize, staffSizeCall, engraveCall, proofReadCall, BarsCalled, StaffSizeCalled, EngraveCalled, AutomationCalled, DiagnosticsCalled, ProofReadCalled};
 ghost use lib.ListN.{length};
-ghost use Rattle.acorde.specs.Entries.{headValues, headEntry, countEntry, partHeadEntry, BarsEntered, AutomationEntered, DiagnosticsEntered, StaffSizeEntered, EngraveEntered, ProofReadEntered};
+ghost use Rattle.acorde.specs.Entries.{headValues, headEntry, countEntry, partHeadEntry, automationEntry, staffEntry, readingEntry};
 
 mod values;
 
-use calls::AutomationAnswer;
-use calls::BarsAnswer;
-use calls::DiagnosticsAnswer;
-use calls::HeadAnswer;
-use calls::PartCountAnswer;
-use calls::PartHeadAnswer;
+use automation::AutomationAnswer;
+use bars::BarsAnswer;
 use changes::Head;
+use diagnostics::DiagnosticsAnswer;
 use engraver::StaffAnswer;
+use heads::HeadAnswer;
+use heads::PartCountAnswer;
+use heads::PartHeadAnswer;
 use proofread::ReadAnswer;
 
 #[repr(C)]
@@ -89,7 +89,7 @@ fn head_values(h: Head) -> AcordeHead
 pub extern "C" fn acorde_head(sizes: &[u32], deltas: &[u32], words: &[u32]) -> AcordeHead
     ensures { λ r. ⌜ r ≡ headEntry (headCall (piece (now (sizes .entry)) (now (deltas .entry)) (now (words .entry)))) ⌝ }
 {
-    match calls::head(sizes, deltas, words) {
+    match heads::head(sizes, deltas, words) {
         HeadAnswer::Refused(number) => AcordeHead {
             number,
             tempo: 0,
@@ -107,7 +107,7 @@ pub extern "C" fn acorde_head(sizes: &[u32], deltas: &[u32], words: &[u32]) -> A
 pub extern "C" fn acorde_part_count(sizes: &[u32], deltas: &[u32], words: &[u32]) -> AcordeCount
     ensures { λ r. ⌜ r ≡ countEntry (partCountCall (piece (now (sizes .entry)) (now (deltas .entry)) (now (words .entry)))) ⌝ }
 {
-    match calls::part_count(sizes, deltas, words) {
+    match heads::part_count(sizes, deltas, words) {
         PartCountAnswer::Refused(number) => AcordeCount { number, count: 0 },
         PartCountAnswer::Given(count) => AcordeCount { number: 0, count },
     }
@@ -122,7 +122,7 @@ pub extern "C" fn acorde_part_head(
 ) -> AcordePartHead
     ensures { λ r. ⌜ r ≡ partHeadEntry (partHeadCall (piece (now (sizes .entry)) (now (deltas .entry)) (now (words .entry))) part) ⌝ }
 {
-    match calls::part_head(sizes, deltas, words, part) {
+    match heads::part_head(sizes, deltas, words, part) {
         PartHeadAnswer::Refused(number) => AcordePartHead {
             number,
             channel: 0,
@@ -144,11 +144,11 @@ pub extern "C" fn acorde_bars(
     starts: &mut [u64],
     marks: &mut [u64],
 ) -> AcordeCount
-    ensures { λ r. ⌜ BarsEntered
+    ensures { λ r. ⌜ BarsCalled countEntry
         (barsCall (piece (now (sizes .entry)) (now (deltas .entry)) (now (words .entry))) (length (now (starts .entry))) (length (now (marks .entry))))
         (now (starts .entry)) (now (marks .entry)) r (now (starts .exit)) (now (marks .exit)) ⌝ }
 {
-    match calls::bars(sizes, deltas, words, starts, marks) {
+    match bars::bars(sizes, deltas, words, starts, marks) {
         BarsAnswer::Refused(number) => AcordeCount { number, count: 0 },
         BarsAnswer::Given(count) => AcordeCount { number: 0, count },
     }
@@ -163,11 +163,11 @@ pub extern "C" fn acorde_automation(
     ticks: &mut [u64],
     out: &mut [u32],
 ) -> AcordeAutomation
-    ensures { λ r. ⌜ AutomationEntered
+    ensures { λ r. ⌜ AutomationCalled automationEntry
         (automationCall (piece (now (sizes .entry)) (now (deltas .entry)) (now (words .entry))) part (length (now (ticks .entry))) (length (now (out .entry))))
         (now (ticks .entry)) (now (out .entry)) r (now (ticks .exit)) (now (out .exit)) ⌝ }
 {
-    match calls::automation(sizes, deltas, words, part, ticks, out) {
+    match automation::automation(sizes, deltas, words, part, ticks, out) {
         AutomationAnswer::Refused(number) => AcordeAutomation {
             number,
             bends: 0,
@@ -194,12 +194,12 @@ pub extern "C" fn acorde_diagnostics(
     details: &mut [u64],
     work: &mut [u64],
 ) -> AcordeCount
-    ensures { λ r. ⌜ DiagnosticsEntered
+    ensures { λ r. ⌜ DiagnosticsCalled countEntry
         (diagnosticsCall (piece (now (sizes .entry)) (now (deltas .entry)) (now (words .entry)))
         (length (now (places .entry))) (length (now (details .entry))) (length (now (work .entry))))
         (now (places .entry)) (now (details .entry)) (now (work .entry)) r (now (places .exit)) (now (details .exit)) (now (work .exit)) ⌝ }
 {
-    match calls::diagnostics(sizes, deltas, words, places, details, work) {
+    match diagnostics::diagnostics(sizes, deltas, words, places, details, work) {
         DiagnosticsAnswer::Refused(number) => AcordeCount { number, count: 0 },
         DiagnosticsAnswer::Given(count) => AcordeCount { number: 0, count },
     }
@@ -213,11 +213,11 @@ pub extern "C" fn acorde_staff_size(
     part: u32,
     work: &mut [u64],
 ) -> AcordeStaff
-    ensures { λ r. ⌜ StaffSizeEntered
+    ensures { λ r. ⌜ StaffSizeCalled staffEntry
         (staffSizeCall (piece (now (sizes .entry)) (now (deltas .entry)) (now (words .entry))) part (length (now (work .entry))))
         (now (work .entry)) r (now (work .exit)) ⌝ }
 {
-    match calls::staff_size(sizes, deltas, words, part, work) {
+    match staffs::staff_size(sizes, deltas, words, part, work) {
         StaffAnswer::Refused(number) => AcordeStaff {
             number,
             bars: 0,
@@ -242,14 +242,14 @@ pub extern "C" fn acorde_engrave(
     keys: &mut [u64],
     work: &mut [u64],
 ) -> AcordeStaff
-    ensures { λ r. ⌜ EngraveEntered
+    ensures { λ r. ⌜ EngraveCalled staffEntry
         (partSize (piece (now (sizes .entry)) (now (deltas .entry)) (now (words .entry))) part)
         (engraveCall (piece (now (sizes .entry)) (now (deltas .entry)) (now (words .entry))) part
         (length (now (counts .entry))) (length (now (heads .entry))) (length (now (keys .entry))) (length (now (work .entry))))
         (now (counts .entry)) (now (heads .entry)) (now (keys .entry)) (now (work .entry))
         r (now (counts .exit)) (now (heads .exit)) (now (keys .exit)) (now (work .exit)) ⌝ }
 {
-    match calls::engrave(sizes, deltas, words, part, counts, heads, keys, work) {
+    match staffs::engrave(sizes, deltas, words, part, counts, heads, keys, work) {
         StaffAnswer::Refused(number) => AcordeStaff {
             number,
             bars: 0,
@@ -274,12 +274,12 @@ pub extern "C" fn acorde_proof_read(
     keys: &[u64],
     work: &mut [u64],
 ) -> AcordeReading
-    ensures { λ r. ⌜ ProofReadEntered
+    ensures { λ r. ⌜ ProofReadCalled readingEntry
         (proofReadCall (piece (now (sizes .entry)) (now (deltas .entry)) (now (words .entry))) part
         (record { counts = now (counts .entry); heads = now (heads .entry); keys = now (keys .entry) }) (length (now (work .entry))))
         (now (work .entry)) r (now (work .exit)) ⌝ }
 {
-    match calls::proof_read(sizes, deltas, words, part, counts, heads, keys, work) {
+    match proofread::proof_read(sizes, deltas, words, part, counts, heads, keys, work) {
         ReadAnswer::Refused(number) => AcordeReading { number, right: 0 },
         ReadAnswer::Given(right) => AcordeReading {
             number: 0,

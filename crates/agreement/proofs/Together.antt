@@ -1,9 +1,9 @@
 -- Engraving, then proof-reading what was written: a refused engraving has its number, any other is handed over whole.
 use Prim.Native.Nat.{ℕ, _*_, _≤_}
 use mathlib.Core.Bool.{Bool, true, false, true≢false, false≢true}
-use mathlib.Core.List.{List, [], _∷_, _++_, append-assoc}
+use mathlib.Core.List.{List, [], _∷_, _++_}
 use mathlib.Core.Logic.{inl, inr}
-use mathlib.Core.Path.{_≡_, refl, sym, ap, subst, _∙_}
+use mathlib.Core.Path.{_≡_, sym, ap, _∙_}
 use native.Mathlib.Omega.{arith}
 use borrow.Author.Tests.{ltb-false}
 use lib.ListN.{length, take, drop, replicate, length-map, length-replicate}
@@ -12,11 +12,11 @@ use Rattle.rules.specs.Lists.{written}
 use Rattle.rules.specs.Piece.{Piece, ticksPerQuarter}
 use Rattle.rules.specs.Bars.{bars}
 use Rattle.rules.specs.Grid.{grid}
-use Rattle.rules.specs.Items.{Item, StaffArrays, headOf, itemsOf, arraysOf}
+use Rattle.rules.specs.Items.{StaffArrays, headOf, itemsOf}
 use Rattle.rules.specs.Voices.{voices}
 use Rattle.rules.specs.Staff.{partStaff}
-use Rattle.rules.specs.Refusals.{Result, refused, given, Refusal, unless, answers, writes, partRefusals, shortWork, shortOutput, unevenPart}
-use Rattle.rules.specs.Calls.{StaffSize, partTrack, partNotes, partEven, partSize, partArrays, engraveCall, EngraveCalled, proofReadRefusals, proofReadCall, ProofReadCalled}
+use Rattle.rules.specs.Refusals.{Result, refused, given, Refusal, unless, answers, writes, partRefusals, shortWork, shortOutput, asItIs}
+use Rattle.rules.specs.Calls.{StaffSize, partTrack, partNotes, partSize, partArrays, engraveCall, EngraveCalled, proofReadRefusals, proofReadCall, ProofReadCalled}
 use Rattle.laws.specs.Admitted.{Passes}
 use Rattle.laws.proofs.Lists.{All-left, All-right}
 use Rattle.laws.proofs.Order.{by-bool}
@@ -61,7 +61,7 @@ module _ {A B : Type 0} (f : A → B) (a : A) where
 -- ---- a part
 
 module _ (x : Piece) (k : ℕ) {counts₀ heads₀ keys₀ work₀ counts₁ heads₁ keys₁ work₁ : List ℕ} {answer : Result StaffSize}
-    (engraved : EngraveCalled (partSize x k) (engraveCall x k (length counts₀) (length heads₀) (length keys₀) (length work₀))
+    (engraved : EngraveCalled asItIs (partSize x k) (engraveCall x k (length counts₀) (length heads₀) (length keys₀) (length work₀))
     counts₀ heads₀ keys₀ work₀ answer counts₁ heads₁ keys₁ work₁)
   where
     abbrev refusals : List Refusal
@@ -133,7 +133,7 @@ module _ (x : Piece) (k : ℕ) {counts₀ heads₀ keys₀ work₀ counts₁ hea
       same-work = ap (length {A = ℕ}) (engraved .work) ∙ length-replicate (length work₀) 0
 
       pub read-together : {r : Result Bool} {work₂ : List ℕ}
-          → ProofReadCalled (proofReadCall x k (record { counts = take (4 * s .bars) counts₁; heads = take (s .items) heads₁; keys = take (2 * s .items) keys₁ }) (length work₁)) work₁ r work₂
+          → ProofReadCalled asItIs (proofReadCall x k (record { counts = take (4 * s .bars) counts₁; heads = take (s .items) heads₁; keys = take (2 * s .items) keys₁ }) (length work₁)) work₁ r work₂
           → Together x k counts₀ heads₀ keys₀ work₀ r counts₁ heads₁ keys₁ work₂
       read-together read =
           record {

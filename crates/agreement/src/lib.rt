@@ -21,13 +21,13 @@ pub fn engrave_and_read(
         (now (counts .entry)) (now (heads .entry)) (now (keys .entry)) (now (work .entry))
         (readAnswer r) (now (counts .exit)) (now (heads .exit)) (now (keys .exit)) (now (work .exit)) ⌝ }
 {
-    match calls::engrave(sizes, deltas, words, part, counts, heads, keys, work) {
+    match staffs::engrave(sizes, deltas, words, part, counts, heads, keys, work) {
         StaffAnswer::Refused(number) => ReadAnswer::Refused(number),
         StaffAnswer::Given(size) => {
             let c = 4 * size.bars;
             let h = size.items;
             let k = 2 * size.items;
-            calls::proof_read(
+            proofread::proof_read(
                 sizes,
                 deltas,
                 words,

@@ -15,8 +15,8 @@ use Rattle.rules.specs.Piece.{Event, timed, kindOf, tempoValue}
 use Rattle.rules.specs.Changes.{Change, Meter, Key, tempoChanges, meterChanges, keyChanges, atZero, firstTempo, firstMeter, firstKey, keyIfAtZero, headIn}
 use Rattle.laws.proofs.Order.{by-bool, by-eq}
 use Rattle.laws.proofs.Lists.{All-map, All-keep}
-use Rattle.words.specs.Track.{left}
-use Rattle.words.proofs.Tracks.{left-cons}
+use Rattle.track_events.specs.Track.{left}
+use Rattle.track_events.proofs.Tracks.{left-cons}
 use Rattle.changes.specs.declared.Reading.{Reading}
 use Rattle.changes.specs.Heads.{HeadIs}
 use Rattle.changes.specs.Reads.{nothingRead, tookTempo, tookMeter, tookKey, took, headRead}

@@ -8,7 +8,7 @@ use lib.IntN.{pos}
 use lib.ListN.{length}
 use Rattle.rules.specs.Changes as rules
 use Rattle.rules.specs.Changes.{partHead}
-use Rattle.words.specs.Track.{eventsOf}
+use Rattle.track_events.specs.Track.{eventsOf}
 use Rattle.changes.specs.declared.Head.{Head}
 use Rattle.changes.specs.declared.PartHead.{PartHead}
 

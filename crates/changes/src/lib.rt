@@ -4,7 +4,7 @@ ghost use mathlib.Core.Path.{_≡_};
 ghost use mathlib.Core.Bool.{true};
 ghost use Rattle.rules.specs.Piece.{byteB, lowerFigure, signedFifths, wellFormed};
 ghost use Rattle.rules.specs.Changes.{tempoOf, clampFifths, headIn};
-ghost use Rattle.words.specs.Track.{Track, eventsOf};
+ghost use Rattle.track_events.specs.Track.{Track, eventsOf};
 ghost use Rattle.changes.specs.Heads.{HeadIs, PartHeadIs};
 ghost use Rattle.changes.specs.Reads.{nothingRead, tookTempo, tookMeter, tookKey, took, headRead};
 
@@ -44,7 +44,7 @@ pub fn lower_of(w: u32) -> u32
     requires { ⌜ byteB w < 32 ⌝ }
     ensures { λ r. ⌜ r ≡ lowerFigure w ⌝ }
 {
-    let power = words::byte_b(w);
+    let power = track_events::byte_b(w);
     1u32 << power
 }
 
@@ -52,7 +52,7 @@ pub fn lower_of(w: u32) -> u32
 pub fn fifths_of(w: u32) -> i32
     ensures { λ r. ⌜ r ≡ clampFifths (signedFifths w) ⌝ }
 {
-    let a = words::byte_a(w);
+    let a = track_events::byte_a(w);
     if a < 8 {
         return a as i32;
     }
@@ -96,7 +96,7 @@ impl Reading {
     fn take_tempo(mut self, word: u32) -> Self
         ensures { λ r. ⌜ r ≡ tookTempo self word ⌝ }
     {
-        let value = words::tempo_value(word);
+        let value = track_events::tempo_value(word);
         if self.paced {
             return self;
         }
@@ -115,7 +115,7 @@ impl Reading {
         if self.metered {
             return self;
         }
-        let x = words::take_apart(word);
+        let x = track_events::take_apart(word);
         self.upper = x.a;
         self.lower = lower_of(word);
         self.metered = true;
@@ -128,7 +128,7 @@ impl Reading {
         if self.keyed {
             return self;
         }
-        let x = words::take_apart(word);
+        let x = track_events::take_apart(word);
         self.fifths = fifths_of(word);
         self.minor = x.b == 1;
         self.keyed = true;
@@ -140,7 +140,7 @@ impl Reading {
         requires { ⌜ wellFormed word ≡ true ⌝ }
         ensures { λ r. ⌜ r ≡ took self word ⌝ }
     {
-        let k = words::kind_of(word);
+        let k = track_events::kind_of(word);
         match k {
             2 => self.take_tempo(word),
             3 => self.take_meter(word),
@@ -186,7 +186,7 @@ pub fn extract_program(words: &[u32]) -> PartHead
 {
     let mut i = 0;
     while i < words.len() {
-        let x = words::take_apart(words[i]);
+        let x = track_events::take_apart(words[i]);
         if x.kind == 12 {
             return PartHead {
                 channel: x.a,

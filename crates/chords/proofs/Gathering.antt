@@ -14,9 +14,10 @@ use Rattle.laws.specs.Sort.{Rises, FallsFrom, count}
 use Rattle.laws.proofs.ChordLaws.{chordStart, noteStart, gathered}
 use Rattle.laws.proofs.Order.{by-eq}
 use Rattle.laws.proofs.VoiceSteps.{Past, gathered-falls, join-at, join-none}
-use Rattle.chords.specs.Columns.{upTo, down, fallingAt, chordAt, ChordsIn}
+use Rattle.laws.specs.Places.{upTo, down}
+use Rattle.chords.specs.Columns.{fallingAt, chordAt, ChordsIn}
 use Rattle.chords.specs.Steps.{Same, Stored}
-use Rattle.chords.proofs.ListFacts.{upTo-more, upTo-split, down-same, down-more, down-split, down-none, reverse-down, foldl-more}
+use Rattle.laws.proofs.Places.{upTo-more, upTo-split, down-same, down-more, down-split, down-none, reverse-down, foldl-more}
 
 -- ---- chords given place by place, most recent first
 other-start : (a : ℕ) (f : ℕ → Chord) (i : ℕ) → (0 < i → f (i - 1) .start ≡ a → ⊥) → Past a (down f i)

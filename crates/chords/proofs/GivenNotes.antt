@@ -10,8 +10,9 @@ use Rattle.rules.specs.RawNotes.{RawNote}
 use Rattle.laws.specs.NoteWords.{startWord, endWord, NotesIn, InRange}
 use Rattle.laws.proofs.Lists.{All-get}
 use Rattle.laws.proofs.Parts.{part-get}
-use Rattle.chords.specs.Columns.{upTo, noteAt, Ready}
-use Rattle.chords.proofs.ListFacts.{getD-map, upTo-is}
+use Rattle.laws.specs.Places.{upTo}
+use Rattle.chords.specs.Columns.{noteAt, Ready}
+use Rattle.laws.proofs.Places.{getD-map, upTo-is}
 
 noNote : RawNote
 noNote = record { start = 0; end = 0; key = 0; channel = 0 }

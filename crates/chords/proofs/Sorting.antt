@@ -20,9 +20,10 @@ use Rattle.laws.proofs.Order.{by-eq}
 use Rattle.laws.proofs.Parts.{put-rest}
 use Rattle.laws.proofs.Sort.{sort-places, All-sort, All-count, length-sort, length-count}
 use Rattle.sort.specs.Sorted.{Placed}
-use Rattle.chords.specs.Columns.{upTo, noteAt, fallingAt, Ready}
+use Rattle.laws.specs.Places.{upTo}
+use Rattle.chords.specs.Columns.{noteAt, fallingAt, Ready}
 use Rattle.chords.specs.Steps.{Same, SnappedTo, Fetched, SortedTo}
-use Rattle.chords.proofs.ListFacts.{getD-map, upTo-length, upTo-get, upTo-is}
+use Rattle.laws.proofs.Places.{getD-map, upTo-length, upTo-get, upTo-is}
 
 -- ---- two words are stored
 module _ (w : List ℕ) (p q x y : ℕ) where

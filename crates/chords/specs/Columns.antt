@@ -1,27 +1,16 @@
 -- How notes and chords stand in the work area: columns of n words, word i of column c at c * n + i.
-use Prim.Native.Nat.{ℕ, zero, suc, _+_, _-_, _*_, _/_, _%_, _^_, _≤_, _<_}
-use mathlib.Core.List.{List, [], _∷_, map, foldl, reverse}
+use Prim.Native.Nat.{ℕ, _+_, _-_, _*_, _/_, _%_, _^_, _≤_, _<_}
+use mathlib.Core.List.{List, [], foldl, reverse}
 use mathlib.Core.Path.{_≡_}
 use lib.Dec.{eqb}
 use lib.ListN.{length, getD}
 use Rattle.rules.specs.RawNotes.{RawNote}
 use Rattle.rules.specs.Voices.{Chord, joinOrOpen}
 use Rattle.laws.specs.NoteWords.{InRange}
-use Rattle.laws.specs.Sort.{count}
+use Rattle.laws.specs.Places.{upTo}
 use Rattle.chords.specs.declared.Keys.{Keys}
 use Rattle.chords.specs.declared.Note.{Note}
 use Rattle.chords.specs.declared.VoiceChord.{VoiceChord}
-
--- ---- what a column's places give
-
--- what f gives at 0 to m - 1
-abbrev pub upTo : {A : Type 0} → (ℕ → A) → ℕ → List A
-upTo f m = map f (count 0 m)
-
--- what f gives at m - 1 down to 0
-unfoldable pub down : {A : Type 0} → (ℕ → A) → ℕ → List A
-down f zero = []
-down f (suc m) = f m ∷ down f m
 
 -- ---- notes
 

@@ -6,7 +6,8 @@ use lib.ListN.{length, getD}
 use Rattle.rules.specs.Grid.{snapped}
 use Rattle.rules.specs.Voices.{Chord, byFallingKey, sortedNotes}
 use Rattle.laws.specs.NoteWords.{endWord}
-use Rattle.chords.specs.Columns.{upTo, noteAt, fallingAt, chordAt}
+use Rattle.laws.specs.Places.{upTo}
+use Rattle.chords.specs.Columns.{noteAt, fallingAt, chordAt}
 
 -- the words from a up to b are as they were
 abbrev pub Same : ℕ → ℕ → List ℕ → List ℕ → Type 0

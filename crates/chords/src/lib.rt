@@ -15,7 +15,8 @@ ghost use lib.ListN.{length, getD};
 ghost use Rattle.rules.specs.RawNotes.{RawNote};
 ghost use Rattle.rules.specs.Voices.{opened, joined};
 ghost use Rattle.laws.specs.Sort.{Rises};
-ghost use Rattle.chords.specs.Columns.{upTo, fallingAt, noteOf, Ready, chordAt, keysOf, chordOf, chordsOf, ChordsIn};
+ghost use Rattle.laws.specs.Places.{upTo};
+ghost use Rattle.chords.specs.Columns.{fallingAt, noteOf, Ready, chordAt, keysOf, chordOf, chordsOf, ChordsIn};
 ghost use Rattle.chords.specs.Steps.{SnappedTo, Fetched, SortedTo, Stored};
 
 // A note.

@@ -1,6 +1,6 @@
 -- No note of a track ends later than a tick after its last; none ends after the last tick where no note starts there.
 use Prim.Native.Nat.{ℕ, zero, suc, _+_, _-_, _≤_, _<_, max}
-use mathlib.Core.Bool.{Bool, true, false, true≢false, _||_}
+use mathlib.Core.Bool.{false, true≢false, _||_}
 use mathlib.Core.List.{List, [], _∷_, foldl}
 use mathlib.Core.Logic.{inl, inr}
 use mathlib.Core.Path.{_≡_, refl, sym, ap, _∙_}
@@ -10,10 +10,10 @@ use lib.Dec.{ltb}
 use lib.ListN.{length, getD, drop}
 use lib.Seq.{drop-cons}
 use Rattle.rules.specs.Lists.{any, sum}
-use Rattle.rules.specs.Piece.{Event, timed, isOn, isOff, byteA, byteB}
+use Rattle.rules.specs.Piece.{timed, isOn, isOff, byteA, byteB}
 use Rattle.rules.specs.RawNotes.{hasNotes}
 use Rattle.laws.proofs.Order.{by-bool}
-use Rattle.words.specs.Track.{Track, eventsOf}
+use Rattle.track_events.specs.Track.{Track, eventsOf}
 use Rattle.ends.specs.declared.Pass.{Pass}
 use Rattle.ends.specs.Pass.{trackEnd, cell, Reached, nothing, step, stepOn, endOf}
 use Rattle.ends.proofs.Passes.{step-off, step-over, step-cases, step-tick, pass-finds}

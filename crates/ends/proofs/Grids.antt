@@ -11,7 +11,7 @@ use lib.ListN.{length, getD, set, replicate, length-set, getD-replicate}
 use lib.Seq.{getD-set-same, getD-set-other}
 use Rattle.laws.proofs.Order.{by-eq}
 use Rattle.ends.specs.Pass.{cell, put}
-use Rattle.ends.proofs.ListFacts.{of-replicate}
+use Rattle.laws.proofs.Places.{of-replicate}
 
 pub record Grid (rows : List (List ℕ)) : Type 0 where
   pub count : length rows ≡ 16

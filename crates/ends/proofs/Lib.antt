@@ -1,4 +1,3 @@
-pub mod ListFacts
 pub mod Grids
 pub mod Passes
 pub mod Midway

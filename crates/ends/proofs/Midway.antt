@@ -10,10 +10,10 @@ use Rattle.rules.specs.Lists.{All}
 use Rattle.rules.specs.Piece.{Event, timed, wellFormed, byteA, byteB}
 use Rattle.rules.specs.Refusals.{largestDelta}
 use Rattle.laws.proofs.Lists.{All-get}
-use Rattle.words.specs.Track.{Track, eventsOf, left}
-use Rattle.words.proofs.Tracks.{left-cons, left-none}
+use Rattle.track_events.specs.Track.{Track, eventsOf, left}
+use Rattle.track_events.proofs.Tracks.{left-cons, left-none}
 use Rattle.ends.specs.Pass.{trackEnd, cell, put, Reached, nothing, step, stepOn, endOf, Within}
-use Rattle.ends.proofs.ListFacts.{after-set}
+use Rattle.laws.proofs.Places.{after-set}
 use Rattle.ends.proofs.Passes.{step-cases, step-tick, pass-finds}
 use Rattle.ends.proofs.Grids.{zeros-cell}
 

@@ -23,12 +23,12 @@ use Rattle.laws.proofs.Folds.{foldl-keeps}
 use Rattle.laws.proofs.Sort.{All-sort}
 use Rattle.laws.proofs.Notes.{has-notes}
 use Rattle.laws.proofs.Refusals.{Agree, sizes-agree}
-use Rattle.words.specs.Track.{Track, eventsOf, stretch}
-use Rattle.words.proofs.Tracks.{track-part}
+use Rattle.track_events.specs.Track.{Track, eventsOf, stretch}
+use Rattle.track_events.proofs.Tracks.{track-part}
 use Rattle.ends.specs.declared.Sofar.{Sofar}
 use Rattle.ends.specs.Pass.{trackEnd}
 use Rattle.ends.specs.Sofar.{taken}
-use Rattle.ends.proofs.ListFacts.{largest-map-append, max-assoc}
+use Rattle.laws.proofs.Largest.{largest-map-append, max-assoc}
 use Rattle.ends.proofs.Passes.{pair-on, pair-off}
 
 -- ---- a track has notes exactly if its end is above 0

@@ -15,10 +15,12 @@ use Rattle.rules.specs.Lists.{keep, largest, lastOr, All}
 use Rattle.rules.specs.Piece.{Event, wellFormed, byteA, byteB, isOn, isOff}
 use Rattle.rules.specs.RawNotes.{NoteEvent, noteEvent, noteEvents, RawNote, rawNote, Pairing, sameKey, withoutOldest, takeOff, takeOn, pairOne, noPairs, byChannel, byStart, rawNotesOf}
 use Rattle.laws.proofs.Order.{by-bool}
-use Rattle.words.proofs.Tracks.{note-bounds}
+use Rattle.track_events.proofs.Tracks.{note-bounds}
 use Rattle.ends.specs.declared.Pass.{Pass}
 use Rattle.ends.specs.Pass.{trackEnd, cell, put, Reached, nothing, passOver, begin, close, finish, step, stepOn, endOf}
-use Rattle.ends.proofs.ListFacts.{largest-map-append, largest-sort, length-keep-last, length-more, head-none, head-some, max-moved, max-both, max-last}
+use Rattle.laws.proofs.Largest.{largest-map-append, largest-sort, max-moved, max-both, max-last}
+use Rattle.laws.proofs.Tests.{length-keep-last, length-more}
+use Rattle.laws.proofs.Places.{head-none, head-some}
 use Rattle.ends.proofs.Grids.{Grid, zeros, zeros-cell, put-cell, put-grid}
 
 -- whether a start is of channel c and key k

@@ -9,7 +9,7 @@ ghost use Rattle.rules.specs.RawNotes.{mostParts, hasNotes};
 ghost use Rattle.rules.specs.Bars.{endOfPiece};
 ghost use Rattle.rules.specs.Refusals.{mostEvents, largestDelta};
 ghost use Rattle.laws.specs.Admitted.{Admitted};
-ghost use Rattle.words.specs.Track.{Track, eventsOf};
+ghost use Rattle.track_events.specs.Track.{Track, eventsOf};
 ghost use Rattle.ends.specs.Pass.{trackEnd, reached, begin, finish, step, endOf, Within};
 ghost use Rattle.ends.specs.Sofar.{taken};
 
@@ -68,11 +68,11 @@ fn step(counts: &mut [[u32; 128]; 16], p: Pass, delta: u32, word: u32) -> Pass
     ensures { λ r. ⌜ reached (now (counts .exit)) r ≡ step (reached (now (counts .entry)) p) (p .tick + delta) word ⌝ }
 {
     let tick = p.tick + delta as u64;
-    let w = words::take_apart(word);
-    if words::is_on(word) {
+    let w = track_events::take_apart(word);
+    if track_events::is_on(word) {
         return begin(counts, p, tick, w.a as usize, w.b as usize);
     }
-    if words::is_off(word) {
+    if track_events::is_off(word) {
         return finish(counts, p, tick, w.a as usize, w.b as usize);
     }
     Pass {
@@ -163,7 +163,7 @@ fn quiet_end(deltas: &[u32], words: &[u32]) -> bool
     let mut i = deltas.len();
     while 0 < i {
         i -= 1;
-        if words::is_on(words[i]) {
+        if track_events::is_on(words[i]) {
             return false;
         }
         if 0 < deltas[i] {
@@ -195,7 +195,7 @@ fn has_notes(deltas: &[u32], words: &[u32]) -> bool
 {
     let mut i = 0;
     while i < words.len() {
-        if words::is_on(words[i]) {
+        if track_events::is_on(words[i]) {
             return true;
         }
         i += 1;

@@ -1,8 +1,8 @@
 -- What an engraving comes to, by the room of the outputs.
-use Prim.Native.Nat.{ℕ, _*_, _/_, _<_, _≤_}
+use Prim.Native.Nat.{ℕ, _/_, _<_, _≤_}
 use mathlib.Core.Bool.{true, false, false≢true}
 use mathlib.Core.List.{List}
-use mathlib.Core.Path.{_≡_, refl, sym, ap, _∙_}
+use mathlib.Core.Path.{_≡_, ap, _∙_}
 use native.Mathlib.Omega.{arith}
 use borrow.Author.Tests.{lt-ltb, le-ltb}
 use lib.ListN.{length, length-map}
@@ -13,7 +13,6 @@ use Rattle.rules.specs.Staff.{staffOf}
 use Rattle.rules.specs.Refusals.{Result, refused, given, unless}
 use Rattle.rules.specs.Calls.{StaffSize}
 use Rattle.rules.specs.Voices.{Chord}
-use Rattle.items.specs.Putting.{Put}
 use Rattle.items.proofs.Appending.{keys-length}
 use Rattle.staff.specs.Staffs.{StaffRoom, StaffPut}
 use Rattle.staff.specs.declared.Engraving.{Engraving}

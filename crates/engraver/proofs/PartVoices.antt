@@ -1,8 +1,8 @@
 -- The voices that stand in the work area are the part's, and the table of values is the division's.
-use Prim.Native.Nat.{ℕ, _+_, _-_, _*_, _/_, _%_, _<_, _≤_, _^_, max}
+use Prim.Native.Nat.{ℕ, _-_, _*_, _/_, _%_, _<_, _≤_, _^_, max}
 use mathlib.Core.Bool.{Bool, true, false, cond}
-use mathlib.Core.List.{List, [], _∷_, flatMap}
-use mathlib.Core.Path.{_≡_, refl, sym, ap, _∙_}
+use mathlib.Core.List.{List, [], flatMap}
+use mathlib.Core.Path.{_≡_, sym}
 use native.Mathlib.Nat.{one-dvd}
 use native.Mathlib.Omega.{arith}
 use borrow.Author.Tests.{eq-eqb}
@@ -11,19 +11,19 @@ use lib.ListN.{length, getD}
 use Rattle.rules.specs.Grid.{grid, offCount}
 use Rattle.rules.specs.RawNotes.{RawNote}
 use Rattle.rules.specs.Values.{isWhole}
-use Rattle.rules.specs.Voices.{Chord, voices}
+use Rattle.rules.specs.Voices.{voices}
 use Rattle.laws.specs.Lines.{Line}
 use Rattle.laws.proofs.Lists.{All-get}
 use Rattle.laws.proofs.VoiceLaws.{voices-four, voices-line}
 use Rattle.chords.specs.Columns.{chordAt}
-use Rattle.chords.proofs.ListFacts.{upTo-is, upTo-length}
+use Rattle.laws.proofs.Places.{upTo-is, upTo-length}
 use Rattle.values.specs.Table.{tableOf}
 use Rattle.voices.specs.Placing.{numberAt}
 use Rattle.voices.specs.VoicesIn.{VoicesIn}
 use Rattle.voices.specs.declared.Voices.{Voices}
 use Rattle.voices.proofs.Reading.{number-small, chord-read}
 use Rattle.items.specs.Writing.{quarter, IsTable}
-use Rattle.staff.specs.Voices.{voiceOf, VoiceHeld, noChord}
+use Rattle.staff.specs.Voices.{voiceOf, noChord}
 use Rattle.staff.specs.Bars.{voicesOf, VoicesHeld}
 
 module _ (g : ℕ) (ns : List RawNote) {n : ℕ} {r : Voices} {w : List ℕ} (given : VoicesIn (voices g ns) n r w) (area : 16 * n ≤ length w) where

@@ -13,7 +13,7 @@ use Rattle.rules.specs.Items.{StaffArrays, itemsOf, arraysOf}
 use Rattle.rules.specs.Staff.{staffOf}
 use Rattle.rules.specs.Refusals.{Result, refused, given, unless, answers, writes, shortOutput}
 use Rattle.rules.specs.Calls.{StaffSize}
-use Rattle.words.specs.Track.{Track, eventsOf}
+use Rattle.track_events.specs.Track.{Track, eventsOf}
 use Rattle.staff.specs.Bars.{voicesOf, VoicesHeld}
 use Rattle.engraver.specs.declared.StaffAnswer as answer
 use Rattle.engraver.specs.declared.Size.{Size}

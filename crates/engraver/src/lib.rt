@@ -1,9 +1,9 @@
 // A part's staff from its track: raw notes, grid and voices in the work area, then the staff, counted before it is written.
-ghost use Prim.Native.Nat.{ℕ, _*_, _<_, _≤_};
+ghost use Prim.Native.Nat.{_<_};
 ghost use mathlib.Core.Path.{_≡_};
 ghost use Rattle.rules.specs.RawNotes.{rawNotes};
-ghost use Rattle.words.specs.Track.{eventsOf};
-ghost use Rattle.bars.specs.Walk.{CanWalk};
+ghost use Rattle.track_events.specs.Track.{eventsOf};
+ghost use Rattle.bar_walk.specs.Walk.{CanWalk};
 ghost use Rattle.staff.specs.Bars.{voicesOf, VoicesHeld};
 ghost use Rattle.engraver.specs.Parts.{HasTrack, PartVoices, barsBy, sizeBy, Written, sizeOf, sizeIn, Engraved};
 

@@ -13,11 +13,11 @@ use Rattle.rules.specs.RawNotes.{rawNotes}
 use Rattle.rules.specs.Refusals.{largestDelta}
 use Rattle.laws.proofs.Notes.{one-note-each}
 use Rattle.laws.proofs.Lists.{All-get}
-use Rattle.words.specs.Track.{Track, eventsOf, left}
-use Rattle.words.proofs.Tracks.{left-cons, left-none}
+use Rattle.track_events.specs.Track.{Track, eventsOf, left}
+use Rattle.track_events.proofs.Tracks.{left-cons, left-none}
 use Rattle.grid.specs.declared.Starts.{Starts}
 use Rattle.grid.specs.Counts.{counted}
-use Rattle.grid.proofs.ListFacts.{tally, tally-keeps}
+use Rattle.laws.proofs.Tests.{tally, tally-keeps}
 use Rattle.grid.proofs.StartCounts.{start-counts}
 
 abbrev starts : Event → Bool

@@ -1,3 +1,2 @@
-pub mod ListFacts
 pub mod StartCounts
 pub mod Counting

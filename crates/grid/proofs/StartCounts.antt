@@ -10,7 +10,7 @@ use Rattle.rules.specs.Lists.{keep, flag, sortBy}
 use Rattle.rules.specs.Piece.{Event, isOn, isOff}
 use Rattle.rules.specs.RawNotes.{NoteEvent, noteEvent, noteEvents, RawNote, rawNote, Pairing, sameKey, withoutOldest, takeOff, takeOn, pairOne, noPairs, pairing, byChannel, byStart, rawNotesOf, rawNotes, lastTick}
 use Rattle.grid.specs.Counts.{StartCounts}
-use Rattle.grid.proofs.ListFacts.{tally, tally-keeps, tally-append, tally-map, tally-kept, tally-sort}
+use Rattle.laws.proofs.Tests.{tally, tally-keeps, tally-append, tally-map, tally-kept, tally-sort}
 
 -- an off takes the oldest start of its key, and just that
 without-one : (g : NoteEvent → Bool) (n s : NoteEvent) (ss : List NoteEvent) → head? (keep (sameKey n) ss) ≡ some s

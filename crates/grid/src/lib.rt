@@ -3,7 +3,7 @@ ghost use Prim.Native.Nat.{_<_, _≤_, _^_, max};
 ghost use mathlib.Core.Path.{_≡_};
 ghost use Rattle.rules.specs.Grid.{sixteenth, isOffGrid, grid, snap};
 ghost use Rattle.rules.specs.RawNotes.{rawNotes};
-ghost use Rattle.words.specs.Track.{Track, eventsOf};
+ghost use Rattle.track_events.specs.Track.{Track, eventsOf};
 ghost use Rattle.grid.specs.Counts.{counted};
 
 fn at_least_one(n: u64) -> u64
@@ -42,7 +42,7 @@ fn count_start(s: Starts, delta: u32, word: u32, p: u64) -> Starts
     ensures { λ r. ⌜ r ≡ counted p s delta word ⌝ }
 {
     let tick = s.tick + delta as u64;
-    if !words::is_on(word) {
+    if !track_events::is_on(word) {
         return Starts {
             tick,
             ons: s.ons,

@@ -1,5 +1,5 @@
 -- Items that are written one after the other.
-use Prim.Native.Nat.{ℕ, _+_, _*_, _≤_, _<_, _^_}
+use Prim.Native.Nat.{ℕ, _+_, _*_, _≤_}
 use mathlib.Core.Bool.{Bool, true}
 use mathlib.Core.List.{List, [], _∷_, _++_, map, flatMap, map-append, append-nil, append-assoc}
 use mathlib.Core.Path.{_≡_, refl, sym, ap, _∙_}
@@ -7,7 +7,6 @@ use native.Mathlib.Nat.{add-zero}
 use native.Mathlib.Omega.{arith}
 use lib.ListN.{length, length-append, length-map}
 use Rattle.rules.specs.Items.{Item, headOf}
-use Rattle.items.specs.Putting.{Put}
 use Rattle.items.specs.Writing.{Room, keyWords, Items}
 use Rattle.items.proofs.Putting.{put-none, put-length, put-append}
 

@@ -1,12 +1,12 @@
 -- The words of rests and of a chord's pieces: a span's values, all with the same bits, and the ties at both ends taken off.
-use Prim.Native.Nat.{ℕ, suc, _+_, _-_, _*_, _/_, _%_, _≤_, _<_, _^_}
-use mathlib.Core.Bool.{Bool, true, false, cond, not, _||_}
-use mathlib.Core.List.{List, [], _∷_, _++_, map, flatMap, flatten}
-use mathlib.Core.Path.{_≡_, refl, sym, ap, _∙_}
+use Prim.Native.Nat.{ℕ, suc, _+_, _-_, _*_, _/_, _%_, _^_}
+use mathlib.Core.Bool.{Bool, true, false}
+use mathlib.Core.List.{List, [], _∷_, map, flatMap, flatten}
+use mathlib.Core.Path.{_≡_, refl, ap}
 use native.Mathlib.Omega.{arith}
-use lib.ListN.{length, getD, set, replicate, length-map}
-use Rattle.rules.specs.Lists.{flag, isEmpty}
-use Rattle.rules.specs.Items.{Item, headOf}
+use lib.ListN.{length}
+use Rattle.rules.specs.Lists.{flag}
+use Rattle.rules.specs.Items.{headOf}
 use Rattle.rules.specs.Staff.{restOf, pieceOf, pieces}
 use Rattle.rules.specs.Values.{Value}
 use Rattle.rules.specs.Voices.{Chord}

@@ -1,15 +1,15 @@
 -- What is put to an output behind what was put before it; outputs keep their lengths.
 use Prim.Native.Nat.{ℕ, suc, _+_, _-_, _*_, _≤_, _<_}
-use mathlib.Core.Bool.{Bool, true, false, cond}
-use mathlib.Core.List.{List, [], _∷_, _++_, append-assoc, flatten}
+use mathlib.Core.Bool.{Bool, true, false}
+use mathlib.Core.List.{List, [], _++_, append-assoc, flatten}
 use mathlib.Core.Path.{_≡_, refl, sym, ap, _∙_}
 use native.Mathlib.Omega.{arith}
-use lib.ListN.{length, getD, set, take, drop, length-append, length-drop, length-set, take-append-drop}
+use lib.ListN.{length, set, take, drop, length-append, length-drop, length-set, take-append-drop}
 use lib.Seq.{length-take-le, take-at, drop-at, drop-drop}
 use Rattle.rules.specs.Lists.{written}
 use Rattle.laws.proofs.Filling.{Filling, filling-more, filling-end}
 use Rattle.items.specs.Putting.{putAt, Put}
-use Rattle.items.specs.Writing.{pairs, untied}
+use Rattle.items.specs.Writing.{pairs}
 
 -- ---- always
 

@@ -1,15 +1,14 @@
 -- A span as items: written, or counted; and the items that it is then.
-use Prim.Native.Nat.{ℕ, suc, _+_, _-_, _*_, _/_, _%_, _≤_, _<_, _^_}
-use mathlib.Core.Bool.{Bool, true, false}
-use mathlib.Core.List.{List, [], _∷_, _++_, map, append-assoc}
+use Prim.Native.Nat.{ℕ, _+_, _-_, _*_, _≤_}
+use mathlib.Core.Bool.{true, false}
+use mathlib.Core.List.{List}
 use mathlib.Core.Path.{_≡_, refl, sym, ap, _∙_}
 use native.Mathlib.Omega.{arith}
-use lib.ListN.{length, getD, take, drop, length-map}
-use lib.Seq.{drop-drop}
+use lib.ListN.{length-map}
 use Rattle.rules.specs.Values.{splitSpan}
 use Rattle.values.specs.Table as values
-use Rattle.values.specs.Table.{tableOf, spanWords, Spanned}
-use Rattle.items.specs.Putting.{putAt, Put}
+use Rattle.values.specs.Table.{spanWords, Spanned}
+use Rattle.items.specs.Putting.{putAt}
 use Rattle.items.specs.Writing.{quarter, IsTable, pairs, spanItems, SpanPut}
 use Rattle.items.proofs.Putting.{put-parts}
 

@@ -1,6 +1,6 @@
 -- Ties taken off the ends of items that stand in an output: what is left are the chord's pieces.
-use Prim.Native.Nat.{ℕ, suc, zero, _+_, _-_, _*_, _/_, _%_, _≤_, _<_, _^_, min, max}
-use mathlib.Core.Bool.{Bool, true, false, cond, _&&_, false≢true}
+use Prim.Native.Nat.{ℕ, suc, zero, _+_, _-_, _/_, _%_, _≤_, _<_, _^_}
+use mathlib.Core.Bool.{Bool, true, false, _&&_, false≢true}
 use mathlib.Core.List.{List, [], _∷_, _++_, map}
 use mathlib.Core.Logic.{inl, inr}
 use mathlib.Core.Path.{_≡_, refl, sym, ap, _∙_}
@@ -12,16 +12,16 @@ use lib.ListN.{length, getD, set, take, drop, length-set, length-map, List·getD
 use lib.Seq.{length-take-le, getD-set-same, getD-set-other, set-append-left, getD-append-add}
 use Rattle.rules.specs.Lists.{flag}
 use Rattle.rules.specs.Items.{headOf}
-use Rattle.rules.specs.Staff.{pieces, rests, restOf, chordIn}
+use Rattle.rules.specs.Staff.{pieces, rests, restOf}
 use Rattle.rules.specs.Values.{Value, splitSpan}
 use Rattle.rules.specs.Voices.{Chord}
-use Rattle.laws.proofs.Order.{by-eq, by-bool}
+use Rattle.laws.proofs.Order.{by-eq}
 use Rattle.chords.specs.Columns.{keysOf}
 use Rattle.chords.specs.declared.Keys.{Keys}
 use Rattle.chords.proofs.Stores.{keys-low, keys-high}
 use Rattle.values.specs.Table.{pieceWord, spanWords}
 use Rattle.items.specs.Putting.{putAt, Put}
-use Rattle.items.specs.Writing.{Items, pairs, spanItems, SpanPut, untied, freed, BothTied}
+use Rattle.items.specs.Writing.{Items, spanItems, SpanPut, untied, freed, BothTied}
 use Rattle.items.proofs.Putting.{put-length}
 use Rattle.items.proofs.Pieces.{tiedBits, rest-heads, rest-keys, pieces-length, pieces-keys, piece-heads}
 

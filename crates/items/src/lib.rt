@@ -1,6 +1,6 @@
 // Section 7, items: rests and the pieces of chords in a bar, written to lent outputs from a place on. Each function is told whether to
 // write: where it is not, the items are counted, and no output changes.
-ghost use Prim.Native.Nat.{ℕ, _+_, _-_, _*_, _<_, _≤_, _^_, min, max};
+ghost use Prim.Native.Nat.{_+_, _-_, _*_, _<_, _≤_, _^_, min, max};
 ghost use mathlib.Core.Bool.{false, _&&_};
 ghost use mathlib.Core.Path.{_≡_};
 ghost use lib.Dec.{ltb};

@@ -1,14 +1,14 @@
 -- Raw notes stay in the range of their track's note events.
-use Prim.Native.Nat.{ℕ, _+_, _<_, _≤_, max}
+use Prim.Native.Nat.{ℕ, _<_}
 use mathlib.Core.Bool.{Bool, true, false, cond, _||_}
-use mathlib.Core.List.{List, [], _∷_, _++_, map, foldl, head?}
+use mathlib.Core.List.{List, [], _∷_, _++_, map, head?}
 use mathlib.Core.Logic.{inl, inr}
 use mathlib.Core.Option.{Option, none, some}
 use mathlib.Core.Path.{_≡_, refl}
 use native.Mathlib.Omega.{arith}
 use Rattle.rules.specs.Lists.{All, keep, lastOr, sortBy}
 use Rattle.rules.specs.Piece.{Event, byteA, byteB, isOn, isOff}
-use Rattle.rules.specs.RawNotes.{NoteEvent, noteEvent, noteEvents, RawNote, rawNote, Pairing, sameKey, withoutOldest, takeOff, takeOn, pairOne, noPairs, pairing, byChannel, byStart, rawNotesOf, rawNotes, lastTick}
+use Rattle.rules.specs.RawNotes.{NoteEvent, noteEvent, noteEvents, rawNote, Pairing, sameKey, withoutOldest, takeOff, takeOn, pairOne, noPairs, pairing, byChannel, byStart, rawNotesOf, rawNotes, lastTick}
 use Rattle.laws.specs.NoteWords.{InRange}
 use Rattle.laws.proofs.Folds.{foldl-keeps}
 use Rattle.laws.proofs.Lists.{All-append, All-keep, All-map, first-kept}

@@ -6,6 +6,7 @@ pub mod Lines
 pub mod NoteWords
 pub mod Notes
 pub mod Parts
+pub mod Places
 pub mod Says
 pub mod Sort
 pub mod Standards

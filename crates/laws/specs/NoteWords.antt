@@ -3,7 +3,6 @@ use Prim.Native.Nat.{ℕ, _+_, _*_, _<_, _≤_}
 use mathlib.Core.List.{List, map}
 use mathlib.Core.Path.{_≡_}
 use lib.ListN.{length, take}
-use Rattle.rules.specs.Lists.{All}
 use Rattle.rules.specs.RawNotes.{RawNote}
 use Rattle.laws.specs.Parts.{part}
 

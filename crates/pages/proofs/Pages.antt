@@ -1,6 +1,6 @@
 -- Texts put behind one another; digits as decimals; keys by commas.
 use Prim.Native.Nat.{ℕ, zero, suc, _+_, _-_, _*_, _/_, _%_, _^_, _≤_, _<_}
-use mathlib.Core.Bool.{Bool, true, false, cond}
+use mathlib.Core.Bool.{Bool, true, false}
 use mathlib.Core.Logic.{inl, inr}
 use mathlib.Core.List.{List, [], _∷_, _++_, append-assoc, append-nil}
 use mathlib.Core.Path.{_≡_, refl, sym, ap, _∙_}
@@ -10,7 +10,6 @@ use native.Mathlib.Omega.{arith}
 use borrow.Author.Tests.{lt-ltb, le-ltb}
 use lib.ListN.{length, getD, set, take}
 use lib.Seq.{take-suc, take-suc-set}
-use Rattle.rules.specs.Lists.{isEmpty}
 use Rattle.pages.specs.Lines.{decimalIn, decimal, behindCommas, commas, bitKey, wordKeys, Adds, Keyed}
 use Rattle.io.specs.Digits.{digits, Fewest}
 use Rattle.laws.proofs.Order.{by-le}

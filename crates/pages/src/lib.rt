@@ -3,9 +3,8 @@ ghost use Prim.Native.Nat.{ℕ, _+_, _*_, _/_, _≤_, _<_};
 ghost use mathlib.Core.List.{List, [], _∷_, _++_};
 ghost use mathlib.Core.Path.{_≡_};
 ghost use lib.ListN.{length};
-ghost use Rattle.rules.specs.Lists.{bit};
 ghost use Rattle.rules.specs.Bars.{barLength};
-ghost use Rattle.pages.specs.Lines.{decimal as Lines·decimal, bitKey, wordKeys, keysOf, soundText, letter, itemEnd, valueText, tiesText, itemLine, meterOf, meterText, tempoText, fifthsText, keyText, barHead, barMarks, barLine, partLine, refusedLine, Adds, Keyed};
+ghost use Rattle.pages.specs.Lines.{decimal as Lines·decimal, bitKey, wordKeys, soundText, letter, itemEnd, valueText, tiesText, itemLine, meterOf, meterText, tempoText, fifthsText, keyText, barHead, barMarks, barLine, partLine, refusedLine, Adds, Keyed};
 
 // One byte more.
 fn put(out: &mut [u8], at: usize, b: u8) -> usize

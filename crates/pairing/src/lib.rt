@@ -112,14 +112,14 @@ pub fn pair_event(
         → Queues (now (heads .entry)) (now (tails .entry)) (now (work .entry)) n m (x .pending)
         → Stepped x (record { number = number; tick = tick; word = w }) n m r (now (heads .exit)) (now (tails .exit)) (now (work .entry)) (now (work .exit))) ⌝ }
 {
-    let x = words::take_apart(w);
+    let x = track_events::take_apart(w);
     let c = wide(x.a);
     let k = wide(x.b);
-    if words::is_on(w) {
+    if track_events::is_on(w) {
         push(heads, tails, work, n, m, c, k, tick, number);
         return Paired::Started;
     }
-    if words::is_off(w) {
+    if track_events::is_off(w) {
         if heads[c][k] == 0 {
             return Paired::Unmatched;
         }

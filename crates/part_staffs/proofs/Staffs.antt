@@ -1,5 +1,5 @@
 -- A part that is let in: what the engraver asks, and that what it answers is the call's answer.
-use Prim.Native.Nat.{ℕ, _+_, _*_}
+use Prim.Native.Nat.{ℕ}
 use mathlib.Core.List.{List, []}
 use mathlib.Core.Path.{_≡_, sym, ap, subst, _∙_}
 use native.Mathlib.Omega.{arith}
@@ -13,10 +13,10 @@ use Rattle.rules.specs.Bars.{barsUpTo}
 use Rattle.rules.specs.Items.{StaffArrays, arraysOf}
 use Rattle.rules.specs.Refusals.{Result, refused, given, unless}
 use Rattle.rules.specs.Calls.{partSize, partArrays, StaffSize, staffSizeCall, engraveCall}
-use Rattle.words.specs.Track.{stretch, eventsOf}
-use Rattle.door.specs.declared.Opened.{Opened}
-use Rattle.door.specs.Opening.{PartOpened}
-use Rattle.door.proofs.Door.{let-pass, own-track, few-ons, area, positive, small}
+use Rattle.track_events.specs.Track.{stretch, eventsOf}
+use Rattle.opening.specs.declared.Opened.{Opened}
+use Rattle.opening.specs.Opening.{PartOpened}
+use Rattle.opening.proofs.Door.{let-pass, own-track, few-ons, area, positive, small}
 use Rattle.engraver.specs.Parts.{HasTrack, barsBy, sizeIn, outcome, Outputs}
 
 module _ (x : Piece) (k work : ℕ) {e : Opened} (opened : PartOpened x k work e) (z : e .number ≡ 0) where

@@ -16,7 +16,7 @@ pub fn measure_part(
 ) -> StaffAnswer
     ensures { λ r. ⌜ answerOf r ≡ staffSizeCall (piece (now (sizes .entry)) (now (deltas .entry)) (now (words .entry))) part (length (now (work .entry))) ⌝ }
 {
-    let opened = door::open_part(sizes, deltas, words, part, work.len());
+    let opened = opening::open_part(sizes, deltas, words, part, work.len());
     if opened.number != 0 {
         return StaffAnswer::Refused(opened.number);
     }
@@ -54,7 +54,7 @@ pub fn write_part(
         (length (now (counts .entry))) (length (now (heads .entry))) (length (now (keys .entry))) (length (now (work .entry))))
         (now (counts .entry)) (now (heads .entry)) (now (keys .entry)) (now (counts .exit)) (now (heads .exit)) (now (keys .exit)) (answerOf r) ⌝ }
 {
-    let opened = door::open_part(sizes, deltas, words, part, work.len());
+    let opened = opening::open_part(sizes, deltas, words, part, work.len());
     if opened.number != 0 {
         return StaffAnswer::Refused(opened.number);
     }

@@ -16,8 +16,8 @@ use Rattle.rules.specs.Piece.{Piece, Event, piece, timed, cutTracks, tracks, si
 use Rattle.rules.specs.RawNotes.{hasNotes, parts, mostParts, mostNotes}
 use Rattle.laws.specs.Admitted.{Admitted}
 use Rattle.laws.proofs.Refusals.{sizes-agree}
-use Rattle.words.specs.Track.{Track, eventsOf, stretch}
-use Rattle.words.proofs.Tracks.{length-stretch, track-part}
+use Rattle.track_events.specs.Track.{Track, eventsOf, stretch}
+use Rattle.track_events.proofs.Tracks.{length-stretch, track-part}
 use Rattle.laws.proofs.Loops.{any-count, sum-left}
 use Rattle.laws.proofs.Order.{by-bool}
 use Rattle.piece.specs.declared.Span.{Span}

@@ -1,5 +1,5 @@
 -- Ranges in an admitted piece: its end, its ticks per quarter, and the note-ons of its tracks.
-use Prim.Native.Nat.{ℕ, suc, _+_, _*_, _<_, _≤_, _^_, max}
+use Prim.Native.Nat.{ℕ, suc, _+_, _*_, _<_, _≤_, _^_}
 use mathlib.Core.Bool.{Bool, true, false, cond}
 use mathlib.Core.List.{List, [], _∷_, map, flatMap}
 use mathlib.Core.Logic.{⊎-elim}
@@ -17,7 +17,7 @@ use Rattle.laws.proofs.Lists.{All-imp, All-map, All-take, All-drop, All-keep, A
 use Rattle.laws.proofs.Order.{by-bool}
 use Rattle.laws.proofs.Refusals.{sizes-agree}
 use Rattle.laws.proofs.NoteRanges.{EventIn, notes-in-range}
-use Rattle.words.proofs.Ranges.{events-in}
+use Rattle.track_events.proofs.Ranges.{events-in}
 
 tracks-in : (limit : ℕ) (ns ds ws : List ℕ) → length ds * largestDelta < limit → All (λ d. d ≤ largestDelta) ds → All (λ w. wellFormed w ≡ true) ws
     → All (All (EventIn limit)) (cutTracks ns ds ws)

@@ -8,7 +8,7 @@ use lib.ListN.{length}
 use Rattle.rules.specs.Lists.{flag}
 use Rattle.rules.specs.Piece.{Piece, Event, piece, sizesAgree, firstTrack}
 use Rattle.rules.specs.RawNotes.{parts, mostParts, mostNotes}
-use Rattle.words.specs.Track.{eventsOf, stretch}
+use Rattle.track_events.specs.Track.{eventsOf, stretch}
 use Rattle.piece.specs.declared.Span.{Span}
 use Rattle.piece.specs.declared.Counts.{Counts}
 

@@ -1,7 +1,7 @@
 // A piece, as its three arrays sizes, deltas and words: its admission, ticks per quarter, first track and parts.
-use words::is_on;
-use words::take_apart;
-use words::well_formed;
+use track_events::is_on;
+use track_events::take_apart;
+use track_events::well_formed;
 ghost use Prim.Native.Nat.{_+_, _-_, _≤_, _<_, max};
 ghost use mathlib.Core.Bool.{true};
 ghost use mathlib.Core.List.{[]};

@@ -1,13 +1,11 @@
 -- What the arrays hold of a text's numbers, and what is answered at its end.
 use Prim.Native.Nat.{ℕ, _≤_, _<_, _^_}
-use mathlib.Core.Bool.{Bool, true, false, cond}
 use mathlib.Core.List.{List}
 use mathlib.Core.Option.{Option, none, some}
 use mathlib.Core.Path.{_≡_}
 use lib.ListN.{length, take}
 use Rattle.rules.specs.Piece.{Piece, piece}
 use Rattle.rules.specs.Refusals.{firstNumber, pieceRefusals}
-use Rattle.piece_text.specs.declared.Place.{Place}
 use Rattle.piece_text.specs.declared.Counts.{Counts}
 use Rattle.piece_text.specs.declared.Reader.{Reader}
 use Rattle.piece_text.specs.declared.Text as answer

@@ -3,11 +3,11 @@ ghost use Prim.Native.Nat.{ℕ, _*_, _≤_, _<_};
 ghost use mathlib.Core.List.{List, [], _∷_, _++_};
 ghost use mathlib.Core.Logic.{_⊎_};
 ghost use mathlib.Core.Path.{_≡_};
-ghost use lib.ListN.{length, take, drop};
+ghost use lib.ListN.{length};
 ghost use Rattle.rules.specs.Lists.{sum};
 ghost use Rattle.rules.specs.Piece.{Piece, piece};
 ghost use Rattle.rules.specs.Refusals.{firstNumber, pieceRefusals};
-ghost use Rattle.piece_text.specs.Text.{isDigit, isBlank, endsNumber, begin, spoiled, withDigit, numberEnded, lineEnded, placeAfter, threeLines, putNumber, putBegun, Reading, stepped, readOn, nothingRead, ended, textPiece};
+ghost use Rattle.piece_text.specs.Text.{isDigit, isBlank, endsNumber, spoiled, withDigit, numberEnded, lineEnded, placeAfter, threeLines, putNumber, putBegun, Reading, stepped, readOn, nothingRead, ended, textPiece};
 ghost use Rattle.piece_text.specs.Held.{Counted, Held, PieceHeld, ReadingHeld, Answers, Fit, Due};
 
 // How far a text is read: the lines ended, whether the line has a byte, the number begun, and whether the text is bad.

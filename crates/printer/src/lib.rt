@@ -2,9 +2,9 @@
 //
 // Its arrays are its own, so that it holds 500,000 events, 10,000 note-ons in one track and 50,000 items in one part. Numbers 1 to 7 do not
 // depend on them: what does not fit is counted.
-use calls::BarsAnswer;
-use calls::PartCountAnswer;
+use bars::BarsAnswer;
 use engraver::StaffAnswer;
+use heads::PartCountAnswer;
 use libc::STDIN_FILENO;
 use libc::STDOUT_FILENO;
 use piece_text::Counts;
@@ -201,7 +201,7 @@ fn print_part(
     requires { ⌜ (length (now out) ≡ 65536) × (at ≤ 65536) ⌝ }
     ensures { λ r. ⌜ r ≤ 65536 ⌝ }
 {
-    let StaffAnswer::Given(size) = calls::engrave(
+    let StaffAnswer::Given(size) = staffs::engrave(
         sizes,
         deltas,
         words,
@@ -234,7 +234,7 @@ fn print_parts(sizes: &[u32], deltas: &[u32], words: &[u32], parts: u32, work: &
     let mut heads = [0u32; 50000];
     let mut keys = [0u64; 100000];
     let mut out = io::large_buffer();
-    calls::bars(sizes, deltas, words, &mut starts, &mut marks);
+    bars::bars(sizes, deltas, words, &mut starts, &mut marks);
     let mut at = 0;
     let mut part = 0;
     while part < parts {
@@ -259,7 +259,7 @@ fn print_parts(sizes: &[u32], deltas: &[u32], words: &[u32], parts: u32, work: &
 
 // The number of a part that cannot be printed, by its work area or its items; else 0.
 fn part_number(sizes: &[u32], deltas: &[u32], words: &[u32], part: u32, work: &mut [u64]) -> u32 {
-    match calls::staff_size(sizes, deltas, words, part, work) {
+    match staffs::staff_size(sizes, deltas, words, part, work) {
         StaffAnswer::Refused(number) => number,
         StaffAnswer::Given(size) => { if 50000 < size.items { 8 } else { 0 } }
     }
@@ -281,7 +281,7 @@ fn parts_number(sizes: &[u32], deltas: &[u32], words: &[u32], parts: u32, work: 
 // A piece, or its refusal.
 fn print_piece(sizes: &[u32], deltas: &[u32], words: &[u32]) {
     let mut work = [0u64; 164096];
-    match calls::part_count(sizes, deltas, words) {
+    match heads::part_count(sizes, deltas, words) {
         PartCountAnswer::Refused(number) => refuse(number),
         PartCountAnswer::Given(parts) => {
             let number = parts_number(sizes, deltas, words, parts, &mut work);

@@ -2,19 +2,18 @@
 use Prim.Native.Nat.{ℕ, _*_, _≤_}
 use mathlib.Core.Bool.{Bool}
 use mathlib.Core.Path.{_≡_, sym, _∙_}
-use mathlib.Core.List.{List, []}
+use mathlib.Core.List.{List}
 use native.Mathlib.Omega.{arith}
-use lib.ListN.{length}
 use Rattle.rules.specs.Piece.{Piece, Event, ticksPerQuarter}
 use Rattle.rules.specs.Bars.{bars, barsIn, barsUpTo, mostBars}
 use Rattle.rules.specs.RawNotes.{rawNotes}
 use Rattle.rules.specs.Items.{StaffArrays}
 use Rattle.rules.specs.Refusals.{Result}
 use Rattle.rules.specs.Calls.{partNotes, proofReadCall}
-use Rattle.words.specs.Track.{stretch, eventsOf}
-use Rattle.door.specs.declared.Opened.{Opened}
-use Rattle.door.specs.Opening.{PartOpened}
-use Rattle.door.proofs.Door.{let-pass, area}
+use Rattle.track_events.specs.Track.{stretch, eventsOf}
+use Rattle.opening.specs.declared.Opened.{Opened}
+use Rattle.opening.specs.Opening.{PartOpened}
+use Rattle.opening.proofs.Door.{let-pass, area}
 use Rattle.proofread_staff.specs.Staffs.{rightAnswer}
 
 module _ (x : Piece) (k work : ℕ) {e : Opened} (opened : PartOpened x k work e) (z : e .number ≡ 0) where

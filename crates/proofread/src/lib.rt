@@ -1,8 +1,9 @@
 // The proof-reader's call: a piece, a part number and a staff. Refusals 1 to 9, then yes or no. What is left in the work area is not said.
 ghost use mathlib.Core.Path.{_≡_};
 ghost use lib.ListN.{length};
+ghost use Rattle.rules.specs.Refusals.{asItIs};
 ghost use Rattle.rules.specs.Piece.{piece};
-ghost use Rattle.rules.specs.Calls.{proofReadCall};
+ghost use Rattle.rules.specs.Calls.{proofReadCall, ProofReadCalled};
 ghost use Rattle.proofread_staff.specs.Staffs.{answerOf};
 ghost use Rattle.proofread.specs.Answers.{readAnswer};
 use proofread_staff::Reading;
@@ -25,7 +26,7 @@ fn answered(reading: Reading) -> ReadAnswer
 }
 
 // Whether a part's staff is right: its counts, heads and keys, whatever stands in them.
-pub fn proof_read(
+fn read(
     sizes: &[u32],
     deltas: &[u32],
     words: &[u32],
@@ -38,7 +39,7 @@ pub fn proof_read(
     ensures { λ r. ⌜ readAnswer r ≡ proofReadCall (piece (now (sizes .entry)) (now (deltas .entry)) (now (words .entry))) part
         (record { counts = now (counts .entry); heads = now (heads .entry); keys = now (keys .entry) }) (length (now (work .entry))) ⌝ }
 {
-    let opened = door::open_part(sizes, deltas, words, part, work.len());
+    let opened = opening::open_part(sizes, deltas, words, part, work.len());
     if opened.number != 0 {
         return ReadAnswer::Refused(opened.number);
     }
@@ -60,4 +61,25 @@ pub fn proof_read(
         opened.most,
     );
     answered(reading)
+}
+
+// Whether a part's staff is right, whatever stands in its arrays. Refusals 1 to 9.
+pub fn proof_read(
+    sizes: &[u32],
+    deltas: &[u32],
+    words: &[u32],
+    part: u32,
+    counts: &[u32],
+    heads: &[u32],
+    keys: &[u64],
+    work: &mut [u64],
+) -> ReadAnswer
+    ensures { λ r. ⌜ ProofReadCalled asItIs
+        (proofReadCall (piece (now (sizes .entry)) (now (deltas .entry)) (now (words .entry))) part
+        (record { counts = now (counts .entry); heads = now (heads .entry); keys = now (keys .entry) }) (length (now (work .entry))))
+        (now (work .entry)) (readAnswer r) (now (work .exit)) ⌝ }
+{
+    let answer = read(sizes, deltas, words, part, counts, heads, keys, work);
+    basics::clear(work);
+    answer
 }

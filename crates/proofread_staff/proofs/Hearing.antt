@@ -1,5 +1,5 @@
 -- What is heard of a voice item by item is section 8's playback, and its tests are section 8's.
-use Prim.Native.Nat.{ℕ, _+_}
+use Prim.Native.Nat.{ℕ}
 use mathlib.Core.Bool.{Bool, true, false, cond, _&&_, _||_}
 use mathlib.Core.List.{List, [], _∷_, _++_, reverse, reverse-cons, foldl-append}
 use mathlib.Core.Option.{Option, none, some}

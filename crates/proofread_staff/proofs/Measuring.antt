@@ -12,11 +12,11 @@ use Rattle.rules.specs.Lists.{every, keep, lastOr, flag}
 use Rattle.rules.specs.Bars.{Bar, barEnd, barsIn, lastBarEnd, mostBars}
 use Rattle.rules.specs.Grid.{sixteenth, isOffGrid, offCount}
 use Rattle.laws.proofs.Order.{by-bool}
-use Rattle.words.specs.Track.{eventsOf}
-use Rattle.bars.specs.declared.Walker.{Walker}
-use Rattle.bars.specs.Steps.{nextOf}
-use Rattle.bars.specs.Walk.{firstWalker, Settled}
-use Rattle.bars.proofs.WalkLaws.{Walking, walking-start, walking-on, barOf, barsAhead, ahead-all, ahead-last, ahead-more, ahead-end}
+use Rattle.track_events.specs.Track.{eventsOf}
+use Rattle.bar_walk.specs.declared.Walker.{Walker}
+use Rattle.bar_walk.specs.Steps.{nextOf}
+use Rattle.bar_walk.specs.Walk.{firstWalker, Settled}
+use Rattle.bar_walk.proofs.WalkLaws.{Walking, walking-start, walking-on, barOf, barsAhead, ahead-all, ahead-last, ahead-more, ahead-end}
 use Rattle.proofread_notes.specs.Columns.{rawAt}
 use Rattle.proofread_notes.proofs.Rests.{restOf, rest-all, rest-cons, rest-none}
 use Rattle.proofread_staff.specs.Staffs.{rawsAt, withBar, Measures}

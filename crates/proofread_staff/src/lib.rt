@@ -10,8 +10,8 @@ ghost use Rattle.rules.specs.Grid.{isOffGrid, offCount, grid};
 ghost use Rattle.rules.specs.Values.{smallest};
 ghost use Rattle.rules.specs.Items.{readStaff};
 ghost use Rattle.rules.specs.ProofReaderTests.{right?};
-ghost use Rattle.words.specs.Track.{Track, eventsOf};
-ghost use Rattle.bars.specs.Walk.{CanWalk};
+ghost use Rattle.track_events.specs.Track.{Track, eventsOf};
+ghost use Rattle.bar_walk.specs.Walk.{CanWalk};
 ghost use Rattle.proofread_notes.specs.Columns.{Readable};
 ghost use Rattle.proofread_voices.specs.Voices.{Fits};
 ghost use Rattle.proofread_staff.specs.Staffs.{rawsAt, headsMean?, Shapes, withBar, Measures, answerOf, rightAnswer};
@@ -125,7 +125,7 @@ fn measure(p: u64, deltas: &[u32], words: &[u32], end: u64, u: u64) -> Measured
     requires { ⌜ CanWalk (now deltas) (now words) p end × (0 < u) ⌝ }
     ensures { λ r. ⌜ Measures (barsIn mostBars p (eventsOf (now (deltas .entry)) (now (words .entry))) end) u r ⌝ }
 {
-    let mut walker = bars::first_bar(p, deltas, words);
+    let mut walker = bar_walk::first_bar(p, deltas, words);
     let mut x = Measured {
         bars: 0,
         end: 0,

@@ -13,11 +13,11 @@ use Rattle.rules.specs.Bars.{Bar, barLength, barsFrom, barsIn}
 use Rattle.rules.specs.Items.{Item, Staff, readItems, cutBy, byFours, readStaff}
 use Rattle.rules.specs.ProofReader.{timedFrom, voiceItems, Played}
 use Rattle.rules.specs.ProofReaderTests.{freeAt?}
-use Rattle.words.specs.Track.{eventsOf}
-use Rattle.bars.specs.declared.Walker.{Walker}
-use Rattle.bars.specs.Steps.{nextOf}
-use Rattle.bars.specs.Walk.{trackMeter, firstWalker, AtBar, Settled}
-use Rattle.bars.proofs.WalkLaws.{Walking, walking-start, walking-on, barOf, barsAhead, ahead-all, ahead-last, ahead-more, ahead-end}
+use Rattle.track_events.specs.Track.{eventsOf}
+use Rattle.bar_walk.specs.declared.Walker.{Walker}
+use Rattle.bar_walk.specs.Steps.{nextOf}
+use Rattle.bar_walk.specs.Walk.{trackMeter, firstWalker, AtBar, Settled}
+use Rattle.bar_walk.proofs.WalkLaws.{Walking, walking-start, walking-on, barOf, barsAhead, ahead-all, ahead-last, ahead-more, ahead-end}
 use Rattle.laws.proofs.BarLaws.{barAt, bars-last, bars-more}
 use Rattle.laws.proofs.Order.{by-lt}
 use Rattle.proofread_notes.specs.Columns.{notesAt, Same, Before, Marks}

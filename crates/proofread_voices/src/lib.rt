@@ -8,8 +8,8 @@ ghost use Rattle.rules.specs.Lists.{sum};
 ghost use Rattle.rules.specs.Bars.{barsIn, mostBars};
 ghost use Rattle.rules.specs.Items.{readItems, readStaff};
 ghost use Rattle.rules.specs.ProofReaderTests.{freeAt?};
-ghost use Rattle.words.specs.Track.{eventsOf};
-ghost use Rattle.bars.specs.Walk.{CanWalk};
+ghost use Rattle.track_events.specs.Track.{eventsOf};
+ghost use Rattle.bar_walk.specs.Walk.{CanWalk};
 ghost use Rattle.proofread_notes.specs.Columns.{Readable, Before};
 ghost use Rattle.proofread_items.specs.Playing.{tieOf, Paced};
 ghost use Rattle.proofread_voices.specs.Voices.{Fits, NewVoice, ReadsBar, EndsVoice, ReadsVoice};
@@ -146,7 +146,7 @@ pub fn read_voice(
     ensures { λ r. ⌜ ReadsVoice g n m e p v (barsIn mostBars p (eventsOf (now (deltas .entry)) (now (words .entry))) end)
         (readStaff (record { counts = now (counts .entry); heads = now (heads .entry); keys = now (keys .entry) })) (now (work .entry)) (now (work .exit)) r ⌝ }
 {
-    let mut walker = bars::first_bar(p, deltas, words);
+    let mut walker = bar_walk::first_bar(p, deltas, words);
     let mut voice = new_voice();
     let mut bar = 0;
     let mut first = 0;

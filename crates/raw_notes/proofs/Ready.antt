@@ -5,8 +5,8 @@ use native.Mathlib.Omega.{arith}
 use Rattle.rules.specs.Lists.{All}
 use Rattle.rules.specs.RawNotes.{rawNotes}
 use Rattle.laws.specs.NoteWords.{NotesIn, InRange}
-use Rattle.words.specs.Track.{Track, eventsOf}
-use Rattle.words.proofs.Ranges.{track-notes}
+use Rattle.track_events.specs.Track.{Track, eventsOf}
+use Rattle.track_events.proofs.Ranges.{track-notes}
 use Rattle.raw_notes.specs.Columns.{Noted}
 
 pub notes-ready : {ds ws : List ℕ} {n r : ℕ} {w : List ℕ} → Track ds ws → Noted (eventsOf ds ws) n r w

@@ -7,7 +7,7 @@ use lib.ListN.{length, getD, take, drop}
 use Rattle.rules.specs.Lists.{All, keep, sortBy, flag}
 use Rattle.rules.specs.Piece.{Event, wellFormed, isOn}
 use Rattle.rules.specs.RawNotes.{NoteEvent, RawNote, rawNote, Pairing, noteEvents, pairing, byChannel, lastTick}
-use Rattle.words.specs.Track.{Track, eventsOf}
+use Rattle.track_events.specs.Track.{Track, eventsOf}
 use Rattle.pairing.specs.Queues.{Grid, Empty, Queues}
 use Rattle.pairing.specs.Outcome.{after}
 use Rattle.raw_notes.specs.Columns.{Listed}

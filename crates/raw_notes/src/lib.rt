@@ -10,7 +10,7 @@ ghost use lib.ListN.{length, take};
 ghost use Rattle.rules.specs.Lists.{All, keep};
 ghost use Rattle.rules.specs.Piece.{Event, isOn};
 ghost use Rattle.rules.specs.RawNotes.{Pairing};
-ghost use Rattle.words.specs.Track.{Track, eventsOf};
+ghost use Rattle.track_events.specs.Track.{Track, eventsOf};
 ghost use Rattle.raw_notes.specs.Columns.{Noted};
 ghost use Rattle.raw_notes.specs.Stages.{noteOf, NotePut, Pairs, Turn, Turned, Fresh, PairedAll, Open, AllClosed, Gathered};
 use pairing::Paired;
@@ -72,7 +72,7 @@ fn take_event(
             next
         }
         Paired::Closed(start, _) => {
-            let x = words::take_apart(w);
+            let x = track_events::take_apart(w);
             put_note(work, n, r, start, tick, wide(x.b), wide(x.a));
             next.notes = r + 1;
             next

@@ -1,13 +1,13 @@
 // The calls, each with its answer as numbers: the refusal's, or 0 and the values.
-use automation::Counts;
-use calls::AutomationAnswer;
-use calls::BarsAnswer;
-use calls::DiagnosticsAnswer;
-use calls::HeadAnswer;
-use calls::PartCountAnswer;
-use calls::PartHeadAnswer;
+use automation::AutomationAnswer;
+use automation_events::Counts;
+use bars::BarsAnswer;
 use changes::Head;
+use diagnostics::DiagnosticsAnswer;
 use engraver::StaffAnswer;
+use heads::HeadAnswer;
+use heads::PartCountAnswer;
+use heads::PartHeadAnswer;
 
 fn wide(x: u32) -> u64 {
     x as u64
@@ -51,7 +51,7 @@ fn head_values(h: Head, said: &mut [u64; 8]) {
 }
 
 pub fn head(sizes: &[u32], deltas: &[u32], words: &[u32], said: &mut [u64; 8]) {
-    match calls::head(sizes, deltas, words) {
+    match heads::head(sizes, deltas, words) {
         HeadAnswer::Refused(n) => {
             said[0] = wide(n);
         }
@@ -62,7 +62,7 @@ pub fn head(sizes: &[u32], deltas: &[u32], words: &[u32], said: &mut [u64; 8]) {
 }
 
 pub fn part_count(sizes: &[u32], deltas: &[u32], words: &[u32], said: &mut [u64; 8]) {
-    match calls::part_count(sizes, deltas, words) {
+    match heads::part_count(sizes, deltas, words) {
         PartCountAnswer::Refused(n) => {
             said[0] = wide(n);
         }
@@ -74,7 +74,7 @@ pub fn part_count(sizes: &[u32], deltas: &[u32], words: &[u32], said: &mut [u64;
 }
 
 pub fn part_head(sizes: &[u32], deltas: &[u32], words: &[u32], part: u32, said: &mut [u64; 8]) {
-    match calls::part_head(sizes, deltas, words, part) {
+    match heads::part_head(sizes, deltas, words, part) {
         PartHeadAnswer::Refused(n) => {
             said[0] = wide(n);
         }
@@ -94,7 +94,7 @@ pub fn bars(
     marks: &mut [u64],
     said: &mut [u64; 8],
 ) {
-    match calls::bars(sizes, deltas, words, starts, marks) {
+    match bars::bars(sizes, deltas, words, starts, marks) {
         BarsAnswer::Refused(n) => {
             said[0] = wide(n);
         }
@@ -126,7 +126,7 @@ pub fn staff_size(
     work: &mut [u64],
     said: &mut [u64; 8],
 ) {
-    staff(calls::staff_size(sizes, deltas, words, part, work), said);
+    staff(staffs::staff_size(sizes, deltas, words, part, work), said);
 }
 
 pub fn engrave(
@@ -140,7 +140,7 @@ pub fn engrave(
     work: &mut [u64],
     said: &mut [u64; 8],
 ) {
-    let answer = calls::engrave(sizes, deltas, words, part, counts, heads, keys, work);
+    let answer = staffs::engrave(sizes, deltas, words, part, counts, heads, keys, work);
     staff(answer, said);
 }
 
@@ -161,7 +161,7 @@ pub fn automation(
     out: &mut [u32],
     said: &mut [u64; 8],
 ) {
-    match calls::automation(sizes, deltas, words, part, ticks, out) {
+    match automation::automation(sizes, deltas, words, part, ticks, out) {
         AutomationAnswer::Refused(n) => {
             said[0] = wide(n);
         }
@@ -180,7 +180,7 @@ pub fn diagnostics(
     work: &mut [u64],
     said: &mut [u64; 8],
 ) {
-    match calls::diagnostics(sizes, deltas, words, places, details, work) {
+    match diagnostics::diagnostics(sizes, deltas, words, places, details, work) {
         DiagnosticsAnswer::Refused(n) => {
             said[0] = wide(n);
         }

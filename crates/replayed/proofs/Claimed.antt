@@ -1,20 +1,19 @@
 -- The claims of specs/Claims.antt.
-use Prim.Native.Nat.{ℕ, suc, _+_, _*_, _-_, _^_, _≤_, _<_}
-use mathlib.Core.Bool.{Bool, true, false, cond, _&&_}
+use Prim.Native.Nat.{ℕ, suc, _+_, _-_, _^_, _≤_, _<_}
+use mathlib.Core.Bool.{Bool, true, false, cond}
 use mathlib.Core.List.{List, [], _∷_, _++_}
-use mathlib.Core.Path.{_≡_, refl, sym, ap, _∙_}
+use mathlib.Core.Path.{_≡_, refl, ap}
 use native.Mathlib.Omega.{arith}
 use borrow.Author.Tests.{eqb-true, eq-eqb}
 use lib.Dec.{eqb}
 use lib.ListN.{length}
 use Rattle.rules.specs.Lists.{All}
 use Rattle.replayed.specs.Claims.{ChunksAgree, DigitsRead, NothingIsEqual, EqualIsNothing}
-use Rattle.replayed.specs.Decimals.{digit, gap, shifted, begunBy, goneOnBy, stepped, ended, scanned, decimal}
+use Rattle.replayed.specs.Decimals.{digit, gap, shifted, stepped, ended, scanned, decimal}
 use Rattle.replayed.specs.Differences.{difference}
-use Rattle.replayed.specs.declared.Difference.{Difference}
 use Rattle.replayed.specs.declared.Difference.the-variants.{At, Nothing}
 use Rattle.replayed.specs.declared.Scanned.{Scanned}
-use Rattle.replayed.specs.declared.Scanned.the-variants.{Before, Inside, Number}
+use Rattle.replayed.specs.declared.Scanned.the-variants.{Inside, Number}
 use Rattle.replayed.specs.declared.Stopped.{Stopped}
 use Rattle.replayed.proofs.Laws.{begun-digit, on-digit, on-gap}
 

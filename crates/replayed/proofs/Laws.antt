@@ -1,13 +1,13 @@
 -- One turn of each loop, as laws on lists.
-use Prim.Native.Nat.{ℕ, zero, suc, _+_, _*_, _-_, _^_, _≤_, _<_}
-use mathlib.Core.Bool.{Bool, true, false, cond, _&&_}
+use Prim.Native.Nat.{ℕ, zero, suc, _+_, _-_, _^_, _≤_, _<_}
+use mathlib.Core.Bool.{Bool, true, false, _&&_}
 use mathlib.Core.List.{List, [], _∷_, _++_}
-use mathlib.Core.Path.{_≡_, refl, sym, ap, _∙_}
+use mathlib.Core.Path.{_≡_, refl, ap, _∙_}
 use native.Mathlib.Nat.{not-suc-le-zero, le-of-suc-le-suc}
 use native.Mathlib.Numerals.{add-one}
 use native.Mathlib.Omega.{arith}
-use borrow.Author.Tests.{leb-true, leb-false, ltb-true, ltb-false, lt-ltb, le-ltb, le-leb, lt-leb, eq-eqb, ne-eqb}
-use lib.Dec.{leb, ltb, eqb}
+use borrow.Author.Tests.{leb-true, lt-ltb, le-ltb, le-leb, lt-leb, eq-eqb, ne-eqb}
+use lib.Dec.{leb}
 use lib.ListN.{length, getD, set, drop, drop-of-length-le}
 use lib.Seq.{drop-cons}
 use Rattle.replayed.specs.Decimals.{digit, gap, shifted, begunBy, goneOnBy, stepped, ended, scanned}
@@ -15,7 +15,6 @@ use Rattle.replayed.specs.Differences.{difference, other, others}
 use Rattle.replayed.specs.declared.Difference.the-variants.{At, Nothing}
 use Rattle.replayed.specs.declared.Scanned.{Scanned}
 use Rattle.replayed.specs.declared.Scanned.the-variants.{Before, Inside, Number, Word, Large}
-use Rattle.replayed.specs.declared.Stopped.{Stopped}
 
 -- a digit is at least 48 and at most 57
 pub digit-low : (b : ℕ) → digit b ≡ true → 48 ≤ b

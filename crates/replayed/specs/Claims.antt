@@ -1,9 +1,9 @@
 -- What the definitions come to, stated for readers and proved in proofs/Laws.antt.
 use Prim.Native.Nat.{ℕ, _+_, _<_, _^_}
 use mathlib.Core.Bool.{Bool, true, false, cond}
-use mathlib.Core.List.{List, [], _∷_, _++_}
+use mathlib.Core.List.{List, _∷_, _++_}
 use mathlib.Core.Path.{_≡_}
-use lib.ListN.{length, getD}
+use lib.ListN.{length}
 use Rattle.rules.specs.Lists.{All}
 use Rattle.replayed.specs.Decimals.{digit, gap, ended, scanned, decimal}
 use Rattle.replayed.specs.Differences.{difference}

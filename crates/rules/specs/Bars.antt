@@ -1,11 +1,11 @@
 -- Section 4, Bars: their starts and lengths, and what is marked on them.
-use Prim.Native.Nat.{ℕ, zero, suc, _+_, _-_, _*_, _/_, _%_, _^_, max}
-use mathlib.Core.Bool.{Bool, true, false, cond, not, _&&_, _||_}
+use Prim.Native.Nat.{ℕ, zero, suc, _+_, _*_, _/_, _%_, _^_, max}
+use mathlib.Core.Bool.{Bool, true, false, not, _&&_}
 use mathlib.Core.List.{List, [], _∷_, map, flatMap}
 use mathlib.Core.Option.{Option, none, some}
 use lib.Dec.{eqb, leb, ltb}
-use lib.IntN.{ℤ, pos, _+ℤ_, natAbs}
-use Rattle.rules.specs.Lists.{keep, lastOr, largest, flag}
+use lib.IntN.{pos, _+ℤ_, natAbs}
+use Rattle.rules.specs.Lists.{keep, lastOr, largest, flag, bit}
 use Rattle.rules.specs.Piece.{Piece, Event, firstTrack, ticksPerQuarter}
 use Rattle.rules.specs.RawNotes.{RawNote, rawNotes, parts}
 use Rattle.rules.specs.Changes.{Change, Meter, Key, sameMeter, firstMeter, tempoChanges, meterChanges, keyChanges}
@@ -84,6 +84,28 @@ keyBits (some k) = natAbs (k .fifths +ℤ pos 8) * 2 ^ 27 + flag (k .minor) * 2 
 -- A bar's mark: bits 0 to 7 upper, 8 to 15 lower, 16 printed, 17 to 26 tempo, 27 to 31 fifths + 8, 32 minor.
 abbrev pub markOf : Meter → Bool → ℕ → Option Key → ℕ
 markOf m isPrinted tempo key = m .upper + m .lower * 2 ^ 8 + flag isPrinted * 2 ^ 16 + tempo * 2 ^ 17 + keyBits key
+
+-- The fields of a mark, read back: figures, whether the meter is printed (1), tempo, fifths + 8, minor (1).
+abbrev pub markUpper : ℕ → ℕ
+markUpper mark = mark % 2 ^ 8
+
+abbrev pub markLower : ℕ → ℕ
+markLower mark = mark / 2 ^ 8 % 2 ^ 8
+
+abbrev pub markMeter : ℕ → Meter
+markMeter mark = record { upper = markUpper mark; lower = markLower mark }
+
+abbrev pub markPrinted : ℕ → ℕ
+markPrinted mark = bit 16 mark
+
+abbrev pub markTempo : ℕ → ℕ
+markTempo mark = mark / 2 ^ 17 % 2 ^ 10
+
+abbrev pub markFifths : ℕ → ℕ
+markFifths mark = mark / 2 ^ 27 % 2 ^ 5
+
+abbrev pub markMinor : ℕ → ℕ
+markMinor mark = bit 32 mark
 
 -- The marks of bars, each with whether its meter is printed.
 unfoldable pub marksFrom : List (Change ℕ) → List (Change Key) → List Bar → List Bool → List ℕ

@@ -1,5 +1,5 @@
 -- The calls: what each answers, and what each lent array holds after it, from the inputs and what the arrays held before. The lengths of the lent
--- arrays are part of the inputs: they decide number 8.
+-- arrays are part of the inputs: they decide number 8. `told` is how the caller is told the answer: as it is, or as the fields of a C struct.
 use Prim.Native.Nat.{ℕ}
 use mathlib.Core.Bool.{Bool}
 use mathlib.Core.List.{List, [], _∷_, _++_, map}
@@ -10,10 +10,10 @@ use Rattle.rules.specs.Refusals.{Result, Refusal, unless, answers, write
 use Rattle.rules.specs.Piece.{Piece, Event, ticksPerQuarter}
 use Rattle.rules.specs.RawNotes.{RawNote, rawNotes, parts}
 use Rattle.rules.specs.Changes.{Head, head, PartHead, partHead}
-use Rattle.rules.specs.Bars.{Bar, bars, starts, marks}
+use Rattle.rules.specs.Bars.{bars, starts, marks}
 use Rattle.rules.specs.Grid.{grid}
 use Rattle.rules.specs.Values.{beats256}
-use Rattle.rules.specs.Items.{Item, StaffArrays, arraysOf, itemsOf}
+use Rattle.rules.specs.Items.{StaffArrays, arraysOf, itemsOf}
 use Rattle.rules.specs.Staff.{partStaff}
 use Rattle.rules.specs.ProofReaderTests.{verdict, even?}
 use Rattle.rules.specs.Automation.{AutomationLists, automationLists}
@@ -48,8 +48,8 @@ barsCall x room-starts room-marks =
     (record { starts = starts x; marks = marks x })
 
 -- After a call of outcome r: it answers the count of bars.
-pub record BarsCalled (r : Result BarLists) (starts₀ marks₀ : List ℕ) (answer : Result ℕ) (starts₁ marks₁ : List ℕ) : Type 0 where
-  pub answered : answer ≡ answers (λ (b : BarLists). length (b .starts)) r
+pub record BarsCalled {A : Type 0} (told : Result ℕ → A) (r : Result BarLists) (starts₀ marks₀ : List ℕ) (answer : A) (starts₁ marks₁ : List ℕ) : Type 0 where
+  pub answered : answer ≡ told (answers (λ (b : BarLists). length (b .starts)) r)
   pub starts : starts₁ ≡ written (writes (λ (b : BarLists). b .starts) r) starts₀
   pub marks : marks₁ ≡ written (writes (λ (b : BarLists). b .marks) r) marks₀
 
@@ -67,8 +67,8 @@ partSize x k = record { bars = length (bars x); items = length (itemsOf (partSta
 abbrev pub staffSizeCall : Piece → ℕ → ℕ → Result StaffSize
 staffSizeCall x k work = unless (partRefusals x k ++ (shortWork x work ∷ [])) (partSize x k)
 
-pub record StaffSizeCalled (r : Result StaffSize) (work₀ : List ℕ) (answer : Result StaffSize) (work₁ : List ℕ) : Type 0 where
-  pub answered : answer ≡ r
+pub record StaffSizeCalled {A : Type 0} (told : Result StaffSize → A) (r : Result StaffSize) (work₀ : List ℕ) (answer : A) (work₁ : List ℕ) : Type 0 where
+  pub answered : answer ≡ told r
   pub work : work₁ ≡ cleared work₀
 
 abbrev pub partArrays : Piece → ℕ → StaffArrays
@@ -88,10 +88,10 @@ engraveCall x k room-counts room-heads room-keys work =
 
 -- It answers the staff's size.
 pub record EngraveCalled
-    (size : StaffSize) (r : Result StaffArrays) (counts₀ heads₀ keys₀ work₀ : List ℕ)
-    (answer : Result StaffSize) (counts₁ heads₁ keys₁ work₁ : List ℕ)
+    {A : Type 0} (told : Result StaffSize → A) (size : StaffSize) (r : Result StaffArrays) (counts₀ heads₀ keys₀ work₀ : List ℕ)
+    (answer : A) (counts₁ heads₁ keys₁ work₁ : List ℕ)
     : Type 0 where
-  pub answered : answer ≡ answers (λ (s : StaffArrays). size) r
+  pub answered : answer ≡ told (answers (λ (s : StaffArrays). size) r)
   pub counts : counts₁ ≡ written (writes (λ (s : StaffArrays). s .counts) r) counts₀
   pub heads : heads₁ ≡ written (writes (λ (s : StaffArrays). s .heads) r) heads₀
   pub keys : keys₁ ≡ written (writes (λ (s : StaffArrays). s .keys) r) keys₀
@@ -121,9 +121,9 @@ countsOf a =
     record { bends = a .bends; controllers = a .controllers; programs = a .programs; pressures = a .pressures }
 
 pub record AutomationCalled
-    (r : Result AutomationLists) (ticks₀ words₀ : List ℕ) (answer : Result AutomationCounts) (ticks₁ words₁ : List ℕ)
+    {A : Type 0} (told : Result AutomationCounts → A) (r : Result AutomationLists) (ticks₀ words₀ : List ℕ) (answer : A) (ticks₁ words₁ : List ℕ)
     : Type 0 where
-  pub answered : answer ≡ answers countsOf r
+  pub answered : answer ≡ told (answers countsOf r)
   pub ticks : ticks₁ ≡ written (writes (λ (a : AutomationLists). a .ticks) r) ticks₀
   pub words : words₁ ≡ written (writes (λ (a : AutomationLists). a .words) r) words₀
 
@@ -143,9 +143,9 @@ diagnosticsCall x room-places room-details work =
 
 -- It answers the count.
 pub record DiagnosticsCalled
-    (r : Result (List Diagnostic)) (places₀ details₀ work₀ : List ℕ) (answer : Result ℕ) (places₁ details₁ work₁ : List ℕ)
+    {A : Type 0} (told : Result ℕ → A) (r : Result (List Diagnostic)) (places₀ details₀ work₀ : List ℕ) (answer : A) (places₁ details₁ work₁ : List ℕ)
     : Type 0 where
-  pub answered : answer ≡ answers length r
+  pub answered : answer ≡ told (answers length r)
   pub places : places₁ ≡ written (writes (map placeOf) r) places₀
   pub details : details₁ ≡ written (writes (map detailOf) r) details₀
   pub work : work₁ ≡ cleared work₀
@@ -167,8 +167,8 @@ proofReadRefusals x k work = partRefusals x k ++ (shortWork x work ∷ unevenPar
 abbrev pub proofReadCall : Piece → ℕ → StaffArrays → ℕ → Result Bool
 proofReadCall x k s work = unless (proofReadRefusals x k work) (verdict (ticksPerQuarter x) (partNotes x k) (bars x) s)
 
-pub record ProofReadCalled (r : Result Bool) (work₀ : List ℕ) (answer : Result Bool) (work₁ : List ℕ) : Type 0 where
-  pub answered : answer ≡ r
+pub record ProofReadCalled {A : Type 0} (told : Result Bool → A) (r : Result Bool) (work₀ : List ℕ) (answer : A) (work₁ : List ℕ) : Type 0 where
+  pub answered : answer ≡ told r
   pub work : work₁ ≡ cleared work₀
 
 -- ---- beats and spelling: 10

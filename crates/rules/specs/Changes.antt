@@ -1,7 +1,7 @@
 -- Section 3, Changes: tempo, meter and key of the first track, and the two heads.
 use Prim.Native.Nat.{ℕ, _/_, _%_, min, max}
-use mathlib.Core.Bool.{Bool, true, false, cond, not, _&&_}
-use mathlib.Core.List.{List, [], _∷_, map, head?}
+use mathlib.Core.Bool.{Bool, cond, not, _&&_}
+use mathlib.Core.List.{List, map, head?}
 use mathlib.Core.Option.{Option, none, some}
 use lib.Dec.{eqb}
 use lib.IntN.{ℤ, pos, negsuc}

@@ -1,7 +1,6 @@
 -- A second table of examples, for rules that no theorem pins down.
-use Prim.Native.Nat.{ℕ, zero, suc, _+_, _*_, _^_}
-use mathlib.Core.Bool.{Bool, true, false}
-use mathlib.Core.List.{List, [], _∷_, _++_, map, flatMap, flatten}
+use Prim.Native.Nat.{ℕ, _+_, _*_, _^_}
+use mathlib.Core.List.{List, [], _∷_, flatMap, flatten}
 use mathlib.Core.Path.{_≡_, refl}
 use lib.ListN.{length, getD}
 use Rattle.rules.specs.Lists.{keep, any, every, position, changeFirst, insert, sortBy, flag}
@@ -12,7 +11,6 @@ use Rattle.rules.specs.Bars.{barsFrom, endOfPiece, barsUpTo, starts, pri
 use Rattle.rules.specs.Grid.{isOffGrid, grid}
 use Rattle.rules.specs.Voices.{Chord, joinOrOpen, chords, choose, place, voices}
 use Rattle.rules.specs.Values.{values, splitIn}
-use Rattle.rules.specs.Items.{StaffArrays}
 use Rattle.rules.specs.Staff.{pieces, filled, voiceIn}
 use Rattle.rules.specs.Automation.{automationTick}
 use Rattle.rules.specs.Calls.{partArrays}

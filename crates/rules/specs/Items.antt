@@ -1,5 +1,5 @@
 -- Section 7, the output: items, and a staff's three arrays. The engraver writes them and the proof-reader reads them.
-use Prim.Native.Nat.{ℕ, zero, suc, _+_, _-_, _*_, _/_, _%_, _^_}
+use Prim.Native.Nat.{ℕ, _+_, _*_, _/_, _%_, _^_}
 use mathlib.Core.Bool.{Bool}
 use mathlib.Core.List.{List, [], _∷_, map, flatMap, flatten}
 use lib.Dec.{eqb}

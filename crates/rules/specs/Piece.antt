@@ -1,11 +1,11 @@
 -- Section 1, Piece: the three arrays, the ticks, and the table of kinds.
-use Prim.Native.Nat.{ℕ, zero, suc, _+_, _*_, _/_, _%_, _^_}
-use mathlib.Core.Bool.{Bool, true, false, cond, not, _&&_, _||_}
+use Prim.Native.Nat.{ℕ, suc, _+_, _*_, _/_, _%_, _^_}
+use mathlib.Core.Bool.{Bool, cond, not, _&&_, _||_}
 use mathlib.Core.List.{List, [], _∷_}
 use lib.Dec.{eqb, leb, ltb}
 use lib.IntN.{ℤ, subℕ}
 use lib.ListN.{length, getD, take, drop}
-use Rattle.rules.specs.Lists.{any, sum, bit}
+use Rattle.rules.specs.Lists.{sum, bit}
 
 -- ---- the arrays
 

@@ -1,18 +1,17 @@
 -- Section 8, Proof-reader: playback of a staff, and the points of a right staff, as facts for people and as tests for contracts. It goes by a
 -- part's raw notes, the grid and snapping, the bars, and a value's length.
-use Prim.Native.Nat.{ℕ, zero, suc, _+_, _-_, _*_, _%_, _≤_, _<_}
-use mathlib.Core.Bool.{Bool, true, false, cond, not, _&&_, _||_, Bool·beq}
+use Prim.Native.Nat.{ℕ, _+_, _*_, _≤_, _<_}
+use mathlib.Core.Bool.{Bool, true, false, cond}
 use mathlib.Core.List.{List, [], _∷_, _++_, map, reverse}
 use mathlib.Core.Option.{Option, none, some}
 use mathlib.Core.Logic.{_⊎_}
 use mathlib.Core.Path.{_≡_}
-use lib.Dec.{eqb, leb, ltb}
 use lib.ListN.{length, getD}
-use Rattle.rules.specs.Lists.{keep, any, every, below, sum, bit, All, Some}
+use Rattle.rules.specs.Lists.{sum, bit, All, Some}
 use Rattle.rules.specs.RawNotes.{RawNote}
 use Rattle.rules.specs.Bars.{Bar, lastBarEnd}
 use Rattle.rules.specs.Grid.{grid, snapped}
-use Rattle.rules.specs.Values.{ticksOf, isWhole, smallest}
+use Rattle.rules.specs.Values.{ticksOf, isWhole}
 use Rattle.rules.specs.Items.{Item, Staff, StaffArrays, headLimit, readStaff}
 
 -- ---- playback

@@ -1,6 +1,6 @@
 -- Section 2, Raw notes: pairing of ons and offs, the notes' order, the parts.
 use Prim.Native.Nat.{ℕ, _+_, _*_, max}
-use mathlib.Core.Bool.{Bool, true, false, cond, _&&_, _||_}
+use mathlib.Core.Bool.{Bool, cond, _&&_, _||_}
 use mathlib.Core.List.{List, [], _∷_, _++_, map, foldl, head?}
 use mathlib.Core.Option.{Option, none, some}
 use lib.Dec.{eqb}

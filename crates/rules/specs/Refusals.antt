@@ -1,6 +1,6 @@
 -- Turned back: a call's answer is one of document 01's numbers, or what was asked for. A call's refusals stand in the order of the numbers.
 use Prim.Native.Nat.{ℕ, _+_, _*_}
-use mathlib.Core.Bool.{Bool, true, false, cond, not}
+use mathlib.Core.Bool.{Bool, cond, not}
 use mathlib.Core.List.{List, [], _∷_, _++_}
 use lib.Dec.{eqb, leb, ltb}
 use lib.ListN.{length}
@@ -37,6 +37,10 @@ firstNumber (r ∷ rs) = cond (r .applies) (r .number) (firstNumber rs)
 abbrev pub answers : {A B : Type 0} → (A → B) → Result A → Result B
 answers f (refused n) = refused n
 answers f (given a) = given (f a)
+
+-- an answer told as it is
+abbrev pub asItIs : {A : Type 0} → A → A
+asItIs a = a
 
 -- what a call writes to a lent output: nothing where it refuses
 abbrev pub writes : {A : Type 0} → (A → List ℕ) → Result A → List ℕ
@@ -75,8 +79,11 @@ abbrev pub partRefusals : Piece → ℕ → List Refusal
 partRefusals x k = noteRefusals x ++ (refuse 7 (leb (length (parts x)) k) ∷ [])
 
 -- 8: too little space. A work area has at least 16 N + 4,096 words, N the most note-ons in one track; an output is as long as its list or longer.
+abbrev pub workFor : ℕ → ℕ
+workFor n = 16 * n + 4096
+
 abbrev pub workNeeded : Piece → ℕ
-workNeeded x = 16 * mostNotes x + 4096
+workNeeded x = workFor (mostNotes x)
 
 abbrev pub shortWork : Piece → ℕ → Refusal
 shortWork x work = refuse 8 (ltb work (workNeeded x))

@@ -1,5 +1,5 @@
 -- Section 7, the spelling of a key (pitch.rs, midi_to_pitch): a step, an octave and an alteration. Middle C, key 60, is C 4.
-use Prim.Native.Nat.{ℕ, _+_, _*_, _/_, _%_}
+use Prim.Native.Nat.{ℕ, _/_, _%_}
 use mathlib.Core.Bool.{Bool, cond}
 use mathlib.Core.List.{List, [], _∷_}
 use lib.IntN.{ℤ, pos, negsuc, subℕ, _+ℤ_, _*ℤ_}

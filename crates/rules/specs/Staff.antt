@@ -1,5 +1,5 @@
 -- Section 7, Staff: each voice of each bar. Rests fill gaps, chords are cut at bar lines, pieces are tied.
-use Prim.Native.Nat.{ℕ, _+_, _-_, min, max}
+use Prim.Native.Nat.{ℕ, _-_, min, max}
 use mathlib.Core.Bool.{Bool, true, false, cond, not, _&&_, _||_}
 use mathlib.Core.List.{List, [], _∷_, _++_, map}
 use lib.Dec.{ltb}
@@ -10,7 +10,7 @@ use Rattle.rules.specs.Bars.{Bar, bars, barEnd}
 use Rattle.rules.specs.Grid.{grid}
 use Rattle.rules.specs.Voices.{Chord, voices}
 use Rattle.rules.specs.Values.{Value, splitSpan}
-use Rattle.rules.specs.Items.{Item, Staff, StaffArrays, arraysOf}
+use Rattle.rules.specs.Items.{Item, Staff}
 
 abbrev pub restOf : Value → Item
 restOf v =

@@ -1,6 +1,6 @@
 -- What an event means by the two standards that document 01's table of kinds follows: MIDI 1.0 (Detailed Specification, Table II, Channel Voice
 -- Messages) and Standard MIDI Files 1.0 (Events; Meta-Event Definitions).
-use Prim.Native.Nat.{ℕ, zero, suc, _+_, _-_, _*_, _^_}
+use Prim.Native.Nat.{ℕ, zero, suc, _+_, _*_, _^_}
 use mathlib.Core.Bool.{Bool, cond}
 use mathlib.Core.List.{List, [], _∷_, foldl}
 use lib.Dec.{eqb, ltb}

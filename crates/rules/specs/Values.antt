@@ -1,6 +1,6 @@
 -- Section 6, Written values: lengths of codes and dots, the split of a span, the smallest value, beats.
 use Prim.Native.Nat.{ℕ, zero, suc, _+_, _-_, _*_, _/_, _%_, _^_}
-use mathlib.Core.Bool.{Bool, true, false, cond}
+use mathlib.Core.Bool.{Bool, cond}
 use mathlib.Core.List.{List, [], _∷_, flatMap, head?}
 use mathlib.Core.Option.{Option, none, some}
 use lib.Dec.{eqb, leb}

@@ -1,5 +1,5 @@
 -- A bar half written: the voices up to one, and those ahead.
-use Prim.Native.Nat.{ℕ, zero, suc, _+_, _-_, _*_, _≤_, _<_}
+use Prim.Native.Nat.{ℕ, _+_, _-_, _*_, _≤_, _<_}
 use mathlib.Core.Bool.{Bool, true, false}
 use mathlib.Core.List.{List, [], _∷_, _++_, map, flatten, map-append}
 use mathlib.Core.Logic.{inl, inr}
@@ -7,16 +7,16 @@ use mathlib.Core.Path.{_≡_, refl, sym, ap, _∙_}
 use native.Mathlib.Numerals.{add-one}
 use native.Mathlib.Omega.{arith}
 use lib.Dec.{eqb}
-use lib.ListN.{length, getD, set, drop, length-map, length-set}
+use lib.ListN.{length, getD, set, length-map, length-set}
 use lib.Seq.{set-split, drop-drop, getD-set-same, getD-set-other}
 use Rattle.rules.specs.Items.{Item}
 use Rattle.laws.specs.Sort.{count}
 use Rattle.laws.proofs.Order.{by-eq}
 use Rattle.laws.proofs.Sort.{count-cons, count-none}
-use Rattle.chords.specs.Columns.{upTo}
-use Rattle.chords.proofs.ListFacts.{upTo-length, upTo-more}
+use Rattle.laws.specs.Places.{upTo}
+use Rattle.laws.proofs.Places.{upTo-length, upTo-more}
 use Rattle.items.specs.declared.Measure.{Measure}
-use Rattle.items.specs.Putting.{putAt, Put}
+use Rattle.items.specs.Putting.{Put}
 use Rattle.items.proofs.Putting.{put-none, put-length, put-append}
 use Rattle.items.proofs.Appending.{Going, going-start, going-room, going-more, going-done, going-heads, going-keys}
 use Rattle.staff.specs.declared.Engraving.{Engraving}

@@ -1,23 +1,21 @@
 -- How many items there can be: no more than the ticks that they fill.
 use Prim.Native.Nat.{ℕ, zero, suc, _+_, _-_, _≤_, _<_, min, max}
-use mathlib.Core.Bool.{Bool, true, false, _||_}
-use mathlib.Core.List.{List, [], _∷_, _++_}
+use mathlib.Core.Bool.{Bool, _||_}
+use mathlib.Core.List.{List, [], _∷_}
 use mathlib.Core.Logic.{inl, inr}
 use mathlib.Core.Option.{Option, none, some}
-use mathlib.Core.Path.{_≡_, refl, ap, _∙_}
+use mathlib.Core.Path.{_≡_, refl, ap}
 use native.Mathlib.Omega.{arith}
 use lib.ListN.{length, drop, length-append}
 use Rattle.rules.specs.Lists.{any}
-use Rattle.rules.specs.Items.{Item}
 use Rattle.rules.specs.Staff.{rests, chordIn, soundsIn, filled}
 use Rattle.rules.specs.Values.{Value, longest, splitIn, splitSpan}
 use Rattle.rules.specs.Voices.{Chord}
 use Rattle.laws.specs.Lines.{Line}
 use Rattle.laws.proofs.Order.{by-bool, by-lt}
-use Rattle.items.specs.Writing.{spanItems}
 use Rattle.items.proofs.Pieces.{pieces-length}
 use Rattle.items.proofs.Ties.{rests-length}
-use Rattle.staff.specs.Voices.{chordOf, Skipped, filledFrom, voiceFrom, gapAndChord}
+use Rattle.staff.specs.Voices.{Skipped, voiceFrom, gapAndChord}
 use Rattle.staff.proofs.Sounding.{keep-past, Ahead, coming, ahead-start, ahead-none, ahead-late, ahead-gap, ahead-sounds, ahead-more, ahead-next}
 
 split-few : (p n t : ℕ) → length (splitIn p n t .pieces) ≤ n

@@ -1,18 +1,17 @@
 -- A voice half written in a bar: items up to a chord, and those of the chords ahead.
-use Prim.Native.Nat.{ℕ, _+_, _-_, _≤_, _<_, min, max}
+use Prim.Native.Nat.{ℕ, _+_, _-_, _≤_, _<_, min}
 use mathlib.Core.Bool.{Bool}
-use mathlib.Core.List.{List, _++_}
-use mathlib.Core.Path.{_≡_, refl, sym, ap, _∙_}
+use mathlib.Core.List.{List}
+use mathlib.Core.Path.{_≡_, ap}
 use native.Mathlib.Omega.{arith}
 use lib.ListN.{length, drop}
-use Rattle.rules.specs.Items.{Item}
-use Rattle.rules.specs.Staff.{rests, soundsIn, filled}
+use Rattle.rules.specs.Staff.{rests, filled}
 use Rattle.rules.specs.Voices.{Chord}
 use Rattle.laws.specs.Lines.{Line}
-use Rattle.items.specs.Writing.{Room, Items, Sounding}
+use Rattle.items.specs.Writing.{Room, Items}
 use Rattle.items.proofs.Appending.{Going, going-start, going-heads, going-keys, going-room, going-more, going-end, going-left}
 use Rattle.staff.specs.Voices.{chordOf, Skipped, filledFrom, gapAndChord}
-use Rattle.staff.proofs.Sounding.{keep-past, Ahead, coming, ahead-start, ahead-none, ahead-late, ahead-more, ahead-next}
+use Rattle.staff.proofs.Sounding.{keep-past, Ahead, coming, ahead-start, ahead-more, ahead-next}
 
 -- the bar goes from b to e; the items up to tick t are written, and chord j is the next
 pub record Midbar (w : Bool) (p b e : ℕ) (cs : List Chord) (from : ℕ) (heads₀ keys₀ heads₁ keys₁ : List ℕ) (at t j : ℕ) : Type 0 where

@@ -1,26 +1,25 @@
 -- The chords of a voice that sound in a bar, from tick b to tick e: a run of chords, of which the first is not over at b.
 use Prim.Native.Nat.{ℕ, zero, suc, _+_, _-_, _≤_, _<_, min, max}
-use mathlib.Core.Bool.{Bool, true, false, not, and-false, _&&_}
+use mathlib.Core.Bool.{false, and-false, _&&_}
 use mathlib.Core.List.{List, [], _∷_, _++_, append-assoc}
 use mathlib.Core.Logic.{inl, inr}
-use mathlib.Core.Path.{_≡_, refl, sym, ap, _∙_}
+use mathlib.Core.Path.{_≡_, sym, ap, _∙_}
 use native.Mathlib.Nat.{add-zero}
 use native.Mathlib.Numerals.{add-one}
 use native.Mathlib.Omega.{arith}
 use borrow.Author.Tests.{lt-ltb, le-ltb}
 use lib.Dec.{ltb}
-use lib.ListN.{length, getD, take, drop, length-drop, take-append-drop, drop-of-length-le}
+use lib.ListN.{length, take, drop, length-drop, take-append-drop, drop-of-length-le}
 use lib.Seq.{drop-cons, getD-drop}
-use Rattle.rules.specs.Lists.{All, keep, any, isEmpty}
+use Rattle.rules.specs.Lists.{All, keep, any}
 use Rattle.rules.specs.Items.{Item}
 use Rattle.rules.specs.Staff.{rests, chordIn, soundsIn, filled}
 use Rattle.rules.specs.Voices.{Chord}
 use Rattle.laws.specs.Lines.{Line}
 use Rattle.laws.proofs.Order.{by-lt}
 use Rattle.laws.proofs.Lists.{All-imp, any-kept, keep-none, keep-append}
-use Rattle.items.specs.declared.Measure.{Measure}
 use Rattle.items.specs.Writing.{Sounding}
-use Rattle.staff.specs.Voices.{noChord, chordOf, Past, Skipped, filledFrom, gapAndChord}
+use Rattle.staff.specs.Voices.{noChord, chordOf, Past, Skipped, gapAndChord}
 
 -- ---- chords before, in and after a bar
 

@@ -1,26 +1,25 @@
 -- Staffs by their bars: one bar more, how many items there are, and how long a bar can be.
-use Prim.Native.Nat.{ℕ, zero, suc, _+_, _-_, _*_, _/_, _%_, _≤_, _<_, _^_, max}
-use mathlib.Core.Bool.{Bool, true, false}
-use mathlib.Core.List.{List, [], _∷_, _++_, map, flatten, flatMap, map-append, append-nil, append-assoc}
+use Prim.Native.Nat.{ℕ, suc, _+_, _-_, _*_, _/_, _≤_, _<_, _^_}
+use mathlib.Core.Bool.{Bool, false}
+use mathlib.Core.List.{List, [], _∷_, _++_, map, flatten, map-append, append-nil, append-assoc}
 use mathlib.Core.Logic.{inl, inr}
 use mathlib.Core.Path.{_≡_, refl, sym, ap, _∙_}
 use native.Mathlib.Nat.{mod-lt, mul-le-mul, div-le-self}
 use native.Mathlib.Omega.{arith}
 use lib.Dec.{eqb, leb}
-use lib.ListN.{length, getD, take, length-append, length-map}
+use lib.ListN.{length, getD, length-append, length-map}
 use Rattle.rules.specs.Lists.{All, keep, firstOr, lastOr}
-use Rattle.rules.specs.Piece.{Event, upperFigure}
-use Rattle.rules.specs.Changes.{Change, Meter, meterChanges, firstMeter, commonTime, atZero}
+use Rattle.rules.specs.Piece.{Event}
+use Rattle.rules.specs.Changes.{Change, Meter, meterChanges, firstMeter, commonTime}
 use Rattle.rules.specs.Bars.{Bar, barEnd, barLength, meterAt}
-use Rattle.rules.specs.Items.{Item, Staff, itemsOf, arraysOf, headOf}
+use Rattle.rules.specs.Items.{Item, itemsOf, arraysOf}
 use Rattle.rules.specs.Staff.{voiceIn, voicesIn, staffOf}
 use Rattle.rules.specs.Voices.{Chord}
 use Rattle.laws.specs.Lines.{Line}
 use Rattle.laws.specs.Sort.{count}
-use Rattle.laws.proofs.Lists.{All-map, All-keep, All-imp, All-all}
+use Rattle.laws.proofs.Lists.{All-map, All-keep, All-all}
 use Rattle.laws.proofs.Order.{by-lt}
-use Rattle.items.proofs.Appending.{keys-length}
-use Rattle.staff.specs.Voices.{voiceOf, Past, Skipped}
+use Rattle.staff.specs.Voices.{voiceOf, Skipped}
 use Rattle.staff.specs.Bars.{voicesOf, VoicesHeld, barVoice, barVoices}
 use Rattle.staff.proofs.Few.{voice-few}
 

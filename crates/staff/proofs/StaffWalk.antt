@@ -8,14 +8,14 @@ use native.Mathlib.Omega.{arith}
 use lib.ListN.{length, getD, drop, replicate, getD-replicate, length-append, length-map}
 use Rattle.rules.specs.Bars.{Bar, barEnd, barLength, barsFrom}
 use Rattle.rules.specs.Items.{Item, itemsOf, arraysOf, headOf}
-use Rattle.rules.specs.Staff.{staffOf, voicesIn}
+use Rattle.rules.specs.Staff.{staffOf}
 use Rattle.rules.specs.Voices.{Chord}
-use Rattle.words.specs.Track.{eventsOf}
-use Rattle.chords.proofs.ListFacts.{upTo-length}
-use Rattle.bars.specs.declared.Walker.{Walker}
-use Rattle.bars.specs.Steps.{meterIn, nextOf}
-use Rattle.bars.specs.Walk.{trackMeter, firstWalker, AtBar, Settled}
-use Rattle.bars.proofs.WalkLaws.{barOf, barsAhead, Walking, walking-start, walking-on, ahead-last, ahead-more, ahead-end, ahead-all}
+use Rattle.track_events.specs.Track.{eventsOf}
+use Rattle.laws.proofs.Places.{upTo-length}
+use Rattle.bar_walk.specs.declared.Walker.{Walker}
+use Rattle.bar_walk.specs.Steps.{meterIn, nextOf}
+use Rattle.bar_walk.specs.Walk.{firstWalker, AtBar, Settled}
+use Rattle.bar_walk.proofs.WalkLaws.{barOf, barsAhead, Walking, walking-start, walking-on, ahead-last, ahead-more, ahead-end, ahead-all}
 use Rattle.items.specs.declared.Measure.{Measure}
 use Rattle.items.specs.Putting.{Put}
 use Rattle.items.specs.Writing.{Room, Items}

@@ -1,20 +1,17 @@
 -- The chords of a voice in the work area, one by one, and those that are over.
-use Prim.Native.Nat.{ℕ, zero, suc, _+_, _*_, _≤_, _<_, _≤_}
-use mathlib.Core.List.{List, [], _∷_, _++_}
-use mathlib.Core.Path.{_≡_, refl, sym, _∙_}
+use Prim.Native.Nat.{ℕ, _+_, _*_, _≤_, _<_, _≤_}
+use mathlib.Core.List.{List, [], _∷_}
+use mathlib.Core.Path.{_≡_}
 use native.Mathlib.Numerals.{add-one}
-use native.Mathlib.Nat.{mul-le-mul}
 use native.Mathlib.Omega.{arith}
-use lib.ListN.{length, getD, take}
+use lib.ListN.{length, take}
 use lib.Seq.{take-suc}
-use Rattle.rules.specs.Lists.{All}
 use Rattle.rules.specs.Voices.{Chord}
 use Rattle.laws.proofs.Lists.{All-append, All-imp}
 use Rattle.chords.specs.Columns.{chordAt}
-use Rattle.chords.proofs.ListFacts.{upTo-length, upTo-get}
+use Rattle.laws.proofs.Places.{upTo-length, upTo-get}
 use Rattle.voices.specs.Placing.{numberAt}
-use Rattle.voices.proofs.Cells.{column-end}
-use Rattle.staff.specs.Voices.{voiceOf, VoiceHeld, noChord, chordOf, Past, Skipped}
+use Rattle.staff.specs.Voices.{voiceOf, VoiceHeld, noChord, chordOf, Past}
 
 -- ---- in the work area
 

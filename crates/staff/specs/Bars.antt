@@ -7,7 +7,7 @@ use lib.Dec.{eqb}
 use lib.ListN.{length, getD}
 use Rattle.rules.specs.Items.{Item}
 use Rattle.rules.specs.Voices.{Chord}
-use Rattle.chords.specs.Columns.{upTo}
+use Rattle.laws.specs.Places.{upTo}
 use Rattle.items.specs.declared.Measure.{Measure}
 use Rattle.items.specs.Putting.{Put}
 use Rattle.items.specs.Writing.{Items, Room}

@@ -1,16 +1,14 @@
 -- The staff as a whole: what is asked, and what is written.
-use Prim.Native.Nat.{ℕ, _≤_, _<_, _^_}
+use Prim.Native.Nat.{ℕ, _≤_}
 use mathlib.Core.Bool.{Bool, true}
 use mathlib.Core.List.{List}
 use mathlib.Core.Path.{_≡_}
 use lib.ListN.{length}
 use Rattle.rules.specs.Bars.{Bar, barsIn}
 use Rattle.rules.specs.Items.{Staff, itemsOf, arraysOf}
-use Rattle.rules.specs.Staff.{staffOf}
-use Rattle.words.specs.Track.{eventsOf}
+use Rattle.track_events.specs.Track.{eventsOf}
 use Rattle.items.specs.Putting.{Put}
 use Rattle.staff.specs.declared.Engraving.{Engraving}
-use Rattle.staff.specs.Bars.{voicesOf}
 
 -- the bars by a track's changes, up to an end tick and a limit
 abbrev pub barsOf : List ℕ → List ℕ → ℕ → ℕ → ℕ → List Bar

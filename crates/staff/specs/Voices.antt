@@ -1,16 +1,15 @@
 -- A voice in a bar: the chords that stand in the work area, and where the walk along them is.
-use Prim.Native.Nat.{ℕ, _+_, _-_, _*_, _≤_, _<_, max}
-use mathlib.Core.Bool.{Bool, true, false, cond, _&&_, _||_}
-use mathlib.Core.List.{List, [], _∷_, _++_, map}
-use mathlib.Core.Path.{_≡_}
-use lib.Dec.{ltb, eqb}
+use Prim.Native.Nat.{ℕ, _-_, _*_, _≤_, _<_, max}
+use mathlib.Core.Bool.{Bool, false, cond, _||_}
+use mathlib.Core.List.{List, [], _++_}
 use lib.ListN.{length, getD, take}
 use Rattle.rules.specs.Lists.{All, any, keep}
 use Rattle.rules.specs.Items.{Item}
 use Rattle.rules.specs.Staff.{rests, chordIn, soundsIn, filled}
 use Rattle.rules.specs.Voices.{Chord}
 use Rattle.laws.specs.Lines.{Line}
-use Rattle.chords.specs.Columns.{upTo, chordAt}
+use Rattle.laws.specs.Places.{upTo}
+use Rattle.chords.specs.Columns.{chordAt}
 use Rattle.voices.specs.Placing.{numberAt}
 
 -- ---- in the work area

@@ -1,12 +1,12 @@
 // Section 7: the engraver. A part's chords are walked voice by voice along the bars, and written as items; the bars are walked, not stored.
-ghost use Prim.Native.Nat.{ℕ, _+_, _-_, _*_, _<_, _≤_, _^_, min, max};
+ghost use Prim.Native.Nat.{_+_, _-_, _*_, _<_, _≤_, _^_, max};
 ghost use mathlib.Core.Bool.{true, false, _&&_};
 ghost use mathlib.Core.List.{[], _∷_};
 ghost use mathlib.Core.Path.{_≡_};
 ghost use lib.Dec.{ltb, eqb};
-ghost use lib.ListN.{length, getD};
+ghost use lib.ListN.{length};
 ghost use Rattle.rules.specs.Staff.{staffOf};
-ghost use Rattle.bars.specs.Walk.{CanWalk};
+ghost use Rattle.bar_walk.specs.Walk.{CanWalk};
 ghost use Rattle.chords.specs.Columns as columns;
 ghost use Rattle.voices.specs.Placing.{numberAt};
 ghost use Rattle.items.specs.Putting.{Put};
@@ -289,7 +289,7 @@ pub fn transcribe_track(
         (barsOf (now (deltas .entry)) (now (words .entry)) (quarter (now (values .entry))) end «max_bars»))
         (now (counts .entry)) (now (heads .entry)) (now (keys .entry)) (now (counts .exit)) (now (heads .exit)) (now (keys .exit)) r ⌝ }
 {
-    let mut w = bars::first_bar(values[9], deltas, words);
+    let mut w = bar_walk::first_bar(values[9], deltas, words);
     let mut s = Engraving {
         bars: 0,
         items: 0,

@@ -11,8 +11,8 @@ use Rattle.rules.specs.Piece.{Event, isOn}
 use Rattle.rules.specs.RawNotes.{noteEvents, Pairing, pairOne, noPairs, pairing}
 use Rattle.rules.specs.Diagnostics.{unmatchedOff}
 use Rattle.laws.proofs.Order.{by-bool}
-use Rattle.words.specs.Track.{eventsOf, left, tickAt}
-use Rattle.words.proofs.Tracks.{left-cons, left-none, tick-next, track-sum, formed-at}
+use Rattle.track_events.specs.Track.{eventsOf, left, tickAt}
+use Rattle.track_events.proofs.Tracks.{left-cons, left-none, tick-next, track-sum, formed-at}
 use Rattle.pairing.specs.Outcome.{after}
 use Rattle.pairing.proofs.Chains.{queues-start}
 use Rattle.pairing.proofs.Outcomes.{pair-cons}

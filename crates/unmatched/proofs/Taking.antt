@@ -9,7 +9,7 @@ use Rattle.rules.specs.Lists.{sortBy, All}
 use Rattle.rules.specs.RawNotes.{NoteEvent, noteEvents, Pairing, pairing, byChannel}
 use Rattle.rules.specs.Diagnostics.{unmatchedOn, unmatchedFound}
 use Rattle.laws.proofs.Sort.{length-sort, All-sort, All-unsort}
-use Rattle.words.specs.Track.{eventsOf}
+use Rattle.track_events.specs.Track.{eventsOf}
 use Rattle.pairing.specs.Queues.{Queues, Inside}
 use Rattle.pairing.specs.Steps.{Waiting, Taken}
 use Rattle.pairing.specs.declared.Unclosed.{Unclosed}

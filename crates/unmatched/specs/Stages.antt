@@ -8,7 +8,7 @@ use Rattle.rules.specs.Lists.{All, keep, sortBy, flag}
 use Rattle.rules.specs.Piece.{Event, wellFormed, isOn}
 use Rattle.rules.specs.RawNotes.{NoteEvent, Pairing, noteEvents, pairing, byChannel}
 use Rattle.rules.specs.Diagnostics.{unmatchedOff, unmatchedOn}
-use Rattle.words.specs.Track.{Track, eventsOf}
+use Rattle.track_events.specs.Track.{Track, eventsOf}
 use Rattle.pairing.specs.Queues.{Grid, Empty, Queues}
 use Rattle.pairing.specs.Outcome.{after}
 use Rattle.findings.specs.Found.{Found}

@@ -5,7 +5,7 @@ ghost use mathlib.Core.Path.{_≡_};
 ghost use lib.ListN.{length};
 ghost use Rattle.rules.specs.RawNotes.{Pairing};
 ghost use Rattle.rules.specs.Diagnostics.{unmatchedFound};
-ghost use Rattle.words.specs.Track.{eventsOf};
+ghost use Rattle.track_events.specs.Track.{eventsOf};
 ghost use Rattle.findings.specs.Found.{offAt, onAt, FoundIn};
 ghost use Rattle.unmatched.specs.Stages.{Pairs, Turn, Turned, Fresh, PairedAll, Waits, AllTaken, Emptied};
 use findings::Diagnostic;
@@ -93,7 +93,7 @@ fn take_event(
             seen
         }
         Paired::Unmatched => {
-            let channel = wide(words::byte_a(w));
+            let channel = wide(track_events::byte_a(w));
             let d = unmatched_off(track, i as u64, tick, channel);
             seen.next = findings::put(places, details, at, d);
             seen

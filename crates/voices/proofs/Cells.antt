@@ -9,9 +9,10 @@ use lib.ListN.{length, getD, set, length-set}
 use lib.Seq.{getD-set-same, getD-set-other}
 use Rattle.rules.specs.Voices.{Chord, Voice}
 use Rattle.laws.proofs.Order.{by-eq}
-use Rattle.chords.specs.Columns.{upTo, down, chordAt}
+use Rattle.laws.specs.Places.{upTo, down}
+use Rattle.chords.specs.Columns.{chordAt}
 use Rattle.chords.specs.Steps.{Stored}
-use Rattle.chords.proofs.ListFacts.{upTo-length, upTo-get, upTo-is, down-same, down-more}
+use Rattle.laws.proofs.Places.{upTo-length, upTo-get, upTo-is, down-same, down-more}
 use Rattle.chords.proofs.Stores.{same-cell, chord-same}
 use Rattle.voices.specs.Placing.{numberAt, voiceAt, voicesAt, Cells, Pushed}
 use Rattle.voices.specs.declared.Lasts.{Lasts}

@@ -14,7 +14,7 @@ use Rattle.rules.specs.Voices.{Chord, Voice, isFree, startsWith, voiceEnd, ends
 use Rattle.laws.proofs.Lists.{All-imp, All-all, any-none}
 use Rattle.voices.specs.Placing.{voiceStart, Known}
 use Rattle.voices.specs.declared.Lasts.{Lasts}
-use Rattle.voices.proofs.ListFacts.{position-at, position-found, position-lost, position-agree, position-map, every-passes, every-fails, every-map}
+use Rattle.laws.proofs.Tests.{position-at, position-found, position-lost, position-agree, position-map, every-passes, every-fails, every-map}
 
 -- ---- the earliest end
 

@@ -1,7 +1,6 @@
 pub mod Bounds
 pub mod Cells
 pub mod Choosing
-pub mod ListFacts
 pub mod Reading
 pub mod Spreading
 pub mod Ways

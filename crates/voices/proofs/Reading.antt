@@ -10,7 +10,7 @@ use Rattle.laws.specs.Parts.{part}
 use Rattle.laws.proofs.Lists.{All-get}
 use Rattle.laws.proofs.Parts.{part-get, part-length}
 use Rattle.chords.specs.Columns.{chordAt}
-use Rattle.chords.proofs.ListFacts.{getD-map}
+use Rattle.laws.proofs.Places.{getD-map}
 use Rattle.voices.specs.Placing.{numberAt}
 use Rattle.voices.specs.VoicesIn.{numbersOf, VoicesIn}
 use Rattle.voices.specs.declared.Voices.{Voices}

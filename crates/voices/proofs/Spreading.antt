@@ -16,10 +16,11 @@ use Rattle.laws.proofs.Lists.{All-get, All-map}
 use Rattle.laws.proofs.Parts.{part-get, part-length}
 use Rattle.laws.proofs.Sort.{All-count}
 use Rattle.laws.proofs.VoiceLaws.{spread, voices-four}
-use Rattle.chords.specs.Columns.{upTo, down, noteAt, fallingAt, chordAt, ChordsIn}
+use Rattle.laws.specs.Places.{upTo, down}
+use Rattle.chords.specs.Columns.{noteAt, fallingAt, chordAt, ChordsIn}
 use Rattle.chords.specs.Steps.{SortedTo}
 use Rattle.chords.proofs.GivenNotes.{notes-read}
-use Rattle.chords.proofs.ListFacts.{getD-map, upTo-length, upTo-get, upTo-is, upTo-more, reverse-down, foldl-more}
+use Rattle.laws.proofs.Places.{getD-map, upTo-length, upTo-get, upTo-is, upTo-more, reverse-down, foldl-more}
 use Rattle.voices.specs.Placing.{Known, numberAt, voiceAt, voicesAt, Cells, Placed, Spread}
 use Rattle.voices.specs.VoicesIn.{VoicesIn}
 use Rattle.voices.specs.declared.Lasts.{Lasts}

@@ -12,13 +12,15 @@ use Rattle.rules.specs.Voices.{Chord, Voice, isFree, startsWith, voiceEnd, ends
 use Rattle.laws.proofs.Lists.{All-get, any-none}
 use Rattle.laws.proofs.Order.{by-bool}
 use Rattle.laws.proofs.VoiceLaws.{some-earliest}
-use Rattle.chords.specs.Columns.{down, chordAt}
+use Rattle.laws.specs.Places.{down}
+use Rattle.chords.specs.Columns.{chordAt}
 use Rattle.chords.specs.Steps.{Stored}
-use Rattle.chords.proofs.ListFacts.{upTo-get}
+use Rattle.laws.proofs.Places.{upTo-get}
 use Rattle.voices.specs.Placing.{voiceStart, Known, numberAt, voiceAt, voicesAt, Cells, Next, Pushed, withKeys, endingAt, Placed}
 use Rattle.voices.specs.declared.Lasts.{Lasts}
 use Rattle.voices.proofs.Cells.{pushed-kept, pushed-chord, pushed-cells, pushed-voices, last-is, changed-voices, changed-cells}
-use Rattle.voices.proofs.ListFacts.{position-passes, map-set}
+use Rattle.laws.proofs.Tests.{position-passes}
+use Rattle.laws.proofs.Places.{map-set}
 
 -- ---- what a choice says of its voice
 

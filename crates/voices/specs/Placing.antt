@@ -6,7 +6,8 @@ use lib.Bits.{bitOr}
 use lib.ListN.{length, getD, set}
 use Rattle.rules.specs.Voices as rules
 use Rattle.rules.specs.Voices.{Chord, Voice, voiceEnd, place, noVoices}
-use Rattle.chords.specs.Columns.{upTo, down, chordAt}
+use Rattle.laws.specs.Places.{upTo, down}
+use Rattle.chords.specs.Columns.{chordAt}
 use Rattle.voices.specs.declared.Choice.the-variants.{Free, Together, Cut}
 use Rattle.voices.specs.declared.Choice.{Choice}
 use Rattle.voices.specs.declared.Lasts.{Lasts}

@@ -1,7 +1,7 @@
 -- `acorde::acorde_automation` meets its contract: the answer, case by case.
 use borrow.Author.Needs.{needs}
-use mathlib.Core.Path.{sym, ap, _∙_}
-use Rattle.calls.specs.Answers.{automationAnswer}
+use mathlib.Core.Path.{sym, ap}
+use Rattle.automation.specs.Answers.{automationAnswer}
 use Rattle.acorde.proofs.Entered.{automation-entered}
 use Rattle.acorde.proofs.acorde_automation.Statement.{statement}
 use Rattle.acorde.proofs.acorde_automation.Tie as tie

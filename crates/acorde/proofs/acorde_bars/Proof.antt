@@ -1,7 +1,7 @@
 -- `acorde::acorde_bars` meets its contract: the answer, case by case.
 use borrow.Author.Needs.{needs}
-use mathlib.Core.Path.{sym, ap, _∙_}
-use Rattle.calls.specs.Answers.{barsAnswer}
+use mathlib.Core.Path.{sym, ap}
+use Rattle.bars.specs.Answers.{barsAnswer}
 use Rattle.acorde.proofs.Entered.{bars-entered}
 use Rattle.acorde.proofs.acorde_bars.Statement.{statement}
 use Rattle.acorde.proofs.acorde_bars.Tie as tie

@@ -1,7 +1,7 @@
 -- `acorde::acorde_diagnostics` meets its contract: the answer, case by case.
 use mathlib.Core.Path.{sym, ap}
 use borrow.Author.Needs.{needs}
-use Rattle.calls.specs.Answers.{diagnosticsAnswer}
+use Rattle.diagnostics.specs.Answers.{diagnosticsAnswer}
 use Rattle.acorde.proofs.Entered.{diagnostics-entered}
 use Rattle.acorde.proofs.acorde_diagnostics.Statement.{statement}
 use Rattle.acorde.proofs.acorde_diagnostics.Tie as tie

@@ -1,7 +1,7 @@
 -- `acorde::acorde_head` meets its contract: the answer, case by case.
 use borrow.Author.Needs.{needs}
 use mathlib.Core.Path.{sym, ap, subst, _∙_}
-use Rattle.calls.specs.Answers.{headAnswer, HeadCalled}
+use Rattle.heads.specs.Answers.{headAnswer, HeadCalled}
 use Rattle.acorde.specs.Entries.{headEntry}
 use Rattle.acorde.proofs.Entered.{head-entry}
 use Rattle.acorde.proofs.acorde_head.Statement.{statement}

@@ -1,7 +1,7 @@
 -- `acorde::acorde_part_count` meets its contract: the answer, case by case.
 use borrow.Author.Needs.{needs}
 use mathlib.Core.Path.{sym, ap, _∙_}
-use Rattle.calls.specs.Answers.{countAnswer}
+use Rattle.heads.specs.Answers.{countAnswer}
 use Rattle.acorde.specs.Entries.{countEntry}
 use Rattle.acorde.proofs.acorde_part_count.Statement.{statement}
 use Rattle.acorde.proofs.acorde_part_count.Tie as tie

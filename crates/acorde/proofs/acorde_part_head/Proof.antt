@@ -1,7 +1,7 @@
 -- `acorde::acorde_part_head` meets its contract: the answer, case by case.
 use borrow.Author.Needs.{needs}
 use mathlib.Core.Path.{sym, ap, _∙_}
-use Rattle.calls.specs.Answers.{partHeadAnswer}
+use Rattle.heads.specs.Answers.{partHeadAnswer}
 use Rattle.acorde.specs.Entries.{partHeadEntry}
 use Rattle.acorde.proofs.acorde_part_head.Statement.{statement}
 use Rattle.acorde.proofs.acorde_part_head.Tie as tie

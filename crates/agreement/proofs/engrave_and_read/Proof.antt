@@ -1,9 +1,9 @@
 -- `engrave_and_read`: a refused engraving has its number; any other is handed to the proof-reader, neither more nor less of it.
 use Prim.Native.Nat.{_*_, _≤_}
-use mathlib.Core.Path.{_≡_, sym, ap}
+use mathlib.Core.Path.{sym, ap}
 use native.Mathlib.Omega.{arith}
 use borrow.Author.Needs.{needs}
-use lib.ListN.{length, length-take}
+use lib.ListN.{length}
 use lib.Seq.{length-take-le}
 use Rattle.engraver.specs.Parts.{answerOf}
 use Rattle.agreement.proofs.Together.{turned-back, counts-fit, heads-fit, keys-fit, read-together}

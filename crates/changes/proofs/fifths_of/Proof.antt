@@ -1,5 +1,5 @@
 -- `fifths_of` answers the clamped fifths: each way out is one case of the signed byte.
-use Prim.Native.Nat.{ℕ, _<_, _%_, _/_}
+use Prim.Native.Nat.{ℕ, _<_}
 use mathlib.Core.Path.{_≡_}
 use native.Mathlib.Omega.{arith}
 use borrow.Author.Needs.{needs, sfits-of}

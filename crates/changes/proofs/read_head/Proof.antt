@@ -3,8 +3,8 @@ use Prim.Native.Nat.{_≤_, _<_, _-_}
 use native.Mathlib.Omega.{arith}
 use borrow.Author.Needs.{needs}
 use lib.ListN.{length}
-use Rattle.words.specs.Track.{eventsOf, left}
-use Rattle.words.proofs.Tracks.{formed-at, left-none}
+use Rattle.track_events.specs.Track.{eventsOf, left}
+use Rattle.track_events.proofs.Tracks.{formed-at, left-none}
 use Rattle.changes.proofs.HeadLaws.{Reads, reads-start, reads-next, reads-end, left-late}
 use Rattle.changes.proofs.read_head.Statement.{statement}
 use Rattle.changes.proofs.read_head.Tie as tie

@@ -5,7 +5,7 @@ use native.Mathlib.Omega.{arith}
 use borrow.Author.Needs.{needs}
 use lib.ListN.{length}
 use Rattle.rules.specs.Refusals.{mostEvents}
-use Rattle.words.proofs.Tracks.{formed-at}
+use Rattle.track_events.proofs.Tracks.{formed-at}
 use Rattle.ends.specs.Pass.{reached, nothing}
 use Rattle.ends.proofs.Midway.{Midway, delta-at, within-more, midway-first, midway-next, midway-end}
 use Rattle.ends.proofs.end_of_track.Statement.{statement}

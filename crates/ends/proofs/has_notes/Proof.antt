@@ -1,8 +1,8 @@
 -- `has_notes` looks for a start. The invariant: there is one from event i on exactly if there is one at all.
-use Prim.Native.Nat.{_-_, _≤_, _<_}
+use Prim.Native.Nat.{_-_, _≤_}
 use mathlib.Core.Path.{_≡_, refl, sym, _∙_}
 use native.Mathlib.Omega.{arith}
-use lib.ListN.{length, drop, getD, drop-of-length-le}
+use lib.ListN.{length, drop, drop-of-length-le}
 use Rattle.rules.specs.Lists.{any}
 use Rattle.rules.specs.Piece.{isOn}
 use Rattle.ends.proofs.Bounds.{notes-words, any-here}

@@ -5,7 +5,7 @@ use mathlib.Core.Path.{_≡_, sym, _∙_}
 use native.Mathlib.Omega.{arith}
 use borrow.Author.Needs.{needs}
 use Rattle.rules.specs.Piece.{isOn, isOff}
-use Rattle.words.proofs.Tracks.{note-bounds}
+use Rattle.track_events.proofs.Tracks.{note-bounds}
 use Rattle.ends.proofs.Passes.{step-on, step-off, step-over}
 use Rattle.ends.proofs.step.Statement.{statement}
 use Rattle.ends.proofs.step.Tie as tie

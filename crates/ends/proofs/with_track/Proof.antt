@@ -1,8 +1,7 @@
 -- `with_track`: a track whose end is covered changes only the count of parts.
-use mathlib.Core.Path.{_≡_, sym, _∙_}
+use mathlib.Core.Path.{sym, _∙_}
 use native.Mathlib.Omega.{arith}
-use borrow.Author.Needs.{needs}
-use Rattle.words.specs.Track.{eventsOf}
+use Rattle.track_events.specs.Track.{eventsOf}
 use Rattle.ends.specs.Pass.{trackEnd}
 use Rattle.ends.proofs.PartEnds.{has-end, taken-covered, taken-none}
 use Rattle.ends.proofs.with_track.Statement.{statement}

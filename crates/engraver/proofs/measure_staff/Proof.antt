@@ -1,10 +1,6 @@
 -- `measure_staff`: the staff is counted, and no output is written.
-use Prim.Native.Nat.{_<_}
-use mathlib.Core.Path.{_≡_, ap, _∙_}
 use native.Mathlib.Omega.{arith}
 use borrow.Author.Needs.{needs}
-use Rattle.rules.specs.Calls.{StaffSize}
-use Rattle.items.specs.Writing.{quarter}
 use Rattle.engraver.proofs.Outcomes.{no-room}
 use Rattle.engraver.proofs.PartVoices.{quarter-is, table-is}
 use Rattle.engraver.proofs.measure_staff.Statement.{statement}

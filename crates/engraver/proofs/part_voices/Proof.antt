@@ -1,10 +1,6 @@
 -- `part_voices`: raw notes, their grid, and their voices.
-use Prim.Native.Nat.{_≤_, _<_}
 use native.Mathlib.Omega.{arith}
 use borrow.Author.Needs.{needs}
-use Rattle.rules.specs.Grid.{grid}
-use Rattle.rules.specs.RawNotes.{rawNotes}
-use Rattle.words.specs.Track.{eventsOf}
 use Rattle.raw_notes.proofs.Ready.{notes-ready}
 use Rattle.engraver.proofs.PartVoices.{grid-some, grid-small, voices-same, voices-held}
 use Rattle.engraver.proofs.part_voices.Statement.{statement}

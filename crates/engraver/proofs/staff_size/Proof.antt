@@ -1,6 +1,5 @@
 -- `staff_size`: the voices in the work area are the part's.
 use borrow.Author.Needs.{needs}
-use mathlib.Core.Path.{_∙_}
 use Rattle.engraver.proofs.staff_size.Statement.{statement}
 use Rattle.engraver.proofs.staff_size.Tie as tie
 

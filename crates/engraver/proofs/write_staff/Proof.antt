@@ -1,17 +1,13 @@
 -- `write_staff`: the size is known before anything is written.
-use Prim.Native.Nat.{_/_, _<_, _≤_}
-use mathlib.Core.Bool.{false}
 use mathlib.Core.List.{List}
-use mathlib.Core.Path.{_≡_, ap}
+use mathlib.Core.Path.{ap}
 use native.Mathlib.Omega.{arith}
 use borrow.Author.Needs.{needs}
 use lib.ListN.{length}
 use Rattle.rules.specs.Bars.{Bar}
-use Rattle.rules.specs.Staff.{staffOf}
 use Rattle.rules.specs.Voices.{Chord}
-use Rattle.words.specs.Track.{eventsOf}
+use Rattle.track_events.specs.Track.{eventsOf}
 use Rattle.staff.specs.Bars.{voicesOf}
-use Rattle.staff.specs.Staffs.{StaffPut}
 use Rattle.engraver.specs.Parts.{barsBy}
 use Rattle.engraver.proofs.Outcomes.{no-room, room-kept, counts-short, heads-short, keys-short, enough, has-room, turned-back, written-out}
 use Rattle.engraver.proofs.PartVoices.{quarter-is, table-is, four-voices}

@@ -1,6 +1,6 @@
 -- `push_chord`: a span with both ties, and its ends freed.
-use Prim.Native.Nat.{_*_, _≤_, _<_, _^_}
-use mathlib.Core.Path.{_≡_, refl}
+use Prim.Native.Nat.{_≤_}
+use mathlib.Core.Path.{refl}
 use native.Mathlib.Omega.{arith}
 use borrow.Author.Needs.{needs}
 use Rattle.chords.specs.Columns.{chordOf}

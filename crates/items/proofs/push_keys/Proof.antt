@@ -1,5 +1,5 @@
 -- `push_keys` writes two words an item. The loop's invariant: those up to item i are written, and those from it on are to come.
-use Prim.Native.Nat.{_+_, _-_, _*_, _≤_}
+use Prim.Native.Nat.{_-_, _*_, _≤_}
 use mathlib.Core.List.{_++_}
 use native.Mathlib.Omega.{arith}
 use lib.ListN.{length, take, length-set}

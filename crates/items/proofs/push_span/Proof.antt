@@ -1,6 +1,4 @@
 -- `push_span` writes the values and the keys of a span, or counts its values.
-use Prim.Native.Nat.{_+_}
-use mathlib.Core.Path.{sym}
 use native.Mathlib.Omega.{arith}
 use borrow.Author.Needs.{needs}
 use Rattle.items.proofs.Spans.{span-room, span-written, span-counted}

@@ -1,14 +1,11 @@
 use native.Mathlib.Nat.{max-eq-right, pos-of-ne-zero}
 use native.Mathlib.Omega.{arith}
 use native.Mathlib.Nat.{mul-le-mul, div-zero}
-use mathlib.Core.Path.{_≡_, sym, ap, _∙_}
-use Prim.Native.Nat.{_*_, _%_, _/_, _≤_}
-use borrow.Author.Tests.{lt-ltb, le-ltb, le-leb, lt-leb, eq-eqb, ne-eqb}
+use mathlib.Core.Path.{sym}
+use Prim.Native.Nat.{_*_, _%_, _≤_}
 use borrow.Author.Needs.{needs}
 use Rattle.pages.proofs.bar_length.Statement.{statement}
 use Rattle.pages.proofs.bar_length.Tie as tie
-use Rattle.pages.proofs.bar_length.Reads as reads
-use Rattle.pages.proofs.bar_length.Lts as lts
 
 -- src/lib.rt:178:9
 returns : tie.Need-returns

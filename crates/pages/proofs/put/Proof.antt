@@ -1,10 +1,8 @@
 use native.Mathlib.Omega.{arith}
-use Rattle.pages.proofs.Pages.{adds-one, text-more, adds-both, adds-most}
+use Rattle.pages.proofs.Pages.{adds-one}
 use borrow.Author.Needs.{needs}
 use Rattle.pages.proofs.put.Statement.{statement}
 use Rattle.pages.proofs.put.Tie as tie
-use Rattle.pages.proofs.put.Reads as reads
-use Rattle.pages.proofs.put.Lts as lts
 
 -- src/lib.rt:15:5
 slice-write-out : tie.Need-slice-write-out

@@ -1,18 +1,10 @@
-use mathlib.Core.List.{_∷_, append-nil}
+use mathlib.Core.List.{_∷_}
 use mathlib.Core.Path.{ap}
-use Rattle.pages.specs.Lines.{decimal, meterText, tempoText, fifthsText, keyText, itemEnd, bitKey, wordKeys, soundText, valueText, tiesText, barHead, barMarks}
-use borrow.Author.Tests.{lt-ltb, le-ltb, le-leb, lt-leb, eq-eqb, ne-eqb}
-use native.Mathlib.Omega.{arith}
-use Rattle.pages.proofs.Pages.{adds-eq, adds-keys, text-none, adds-one, text-more, adds-both, adds-most, most-digits, digits-decimal, key-first, key-next, keys-more, no-keys}
+use Rattle.pages.specs.Lines.{decimal, barHead}
+use Rattle.pages.proofs.Pages.{adds-eq, adds-both}
 use borrow.Author.Needs.{needs}
 use Rattle.pages.proofs.put_bar_head.Statement.{statement}
 use Rattle.pages.proofs.put_bar_head.Tie as tie
-use Rattle.pages.proofs.put_bar_head.Reads as reads
-use Rattle.pages.proofs.put_bar_head.Lts as lts
-use Rattle.pages.proofs.bar_length.Reads as bar-length-reads
-use Rattle.pages.proofs.put_decimal.Reads as put-decimal-reads
-use Rattle.pages.proofs.put_next.Reads as put-next-reads
-use Rattle.pages.proofs.put_text.Reads as put-text-reads
 
 -- src/lib.rt:265:9
 bar-length-requires : tie.Need-bar-length-requires

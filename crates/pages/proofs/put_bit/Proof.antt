@@ -1,15 +1,10 @@
-use mathlib.Core.List.{_∷_, append-nil}
-use mathlib.Core.Path.{ap}
-use Rattle.pages.specs.Lines.{decimal, meterText, tempoText, fifthsText, keyText, itemEnd, bitKey, wordKeys, soundText, valueText, tiesText, barHead, barMarks}
-use borrow.Author.Tests.{lt-ltb, le-ltb, le-leb, lt-leb, eq-eqb, ne-eqb}
+use mathlib.Core.List.{append-nil}
+use Rattle.pages.specs.Lines.{bitKey}
+use borrow.Author.Tests.{eq-eqb, ne-eqb}
 use native.Mathlib.Omega.{arith}
-use Rattle.pages.proofs.Pages.{adds-eq, adds-keys, text-none, adds-one, text-more, adds-both, adds-most, most-digits, digits-decimal, key-first, key-next, keys-more, no-keys}
 use borrow.Author.Needs.{needs}
 use Rattle.pages.proofs.put_bit.Statement.{statement}
 use Rattle.pages.proofs.put_bit.Tie as tie
-use Rattle.pages.proofs.put_bit.Reads as reads
-use Rattle.pages.proofs.put_bit.Lts as lts
-use Rattle.pages.proofs.put_key.Reads as put-key-reads
 
 -- src/lib.rt:80:9
 shr-if1 : tie.Need-shr-if1

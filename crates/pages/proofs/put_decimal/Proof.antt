@@ -3,14 +3,10 @@ use lib.ListN.{take}
 use mathlib.Core.List.{_++_}
 use mathlib.Core.Path.{ap, _∙_}
 use native.Mathlib.Omega.{arith}
-use Rattle.pages.proofs.Pages.{text-none, adds-one, text-more, adds-both, adds-most, most-digits, digits-decimal, key-first, key-next, keys-more, no-keys}
+use Rattle.pages.proofs.Pages.{most-digits, digits-decimal}
 use borrow.Author.Needs.{needs}
 use Rattle.pages.proofs.put_decimal.Statement.{statement}
 use Rattle.pages.proofs.put_decimal.Tie as tie
-use Rattle.pages.proofs.put_decimal.Reads as reads
-use Rattle.pages.proofs.put_decimal.Lts as lts
-use Rattle.io.proofs.decimal.Reads as decimal-reads
-use Rattle.pages.proofs.put_text.Reads as put-text-reads
 
 -- src/lib.rt:38:9
 decimal-requires : tie.Need-decimal-requires

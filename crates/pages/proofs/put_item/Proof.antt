@@ -1,18 +1,8 @@
-use mathlib.Core.List.{_∷_, append-nil}
-use mathlib.Core.Path.{ap}
-use Rattle.pages.specs.Lines.{decimal, meterText, tempoText, fifthsText, keyText, itemEnd, bitKey, wordKeys, soundText, valueText, tiesText, barHead, barMarks}
-use borrow.Author.Tests.{lt-ltb, le-ltb, le-leb, lt-leb, eq-eqb, ne-eqb}
 use native.Mathlib.Omega.{arith}
-use Rattle.pages.proofs.Pages.{adds-eq, adds-keys, text-none, adds-one, text-more, adds-both, adds-most, most-digits, digits-decimal, key-first, key-next, keys-more, no-keys}
+use Rattle.pages.proofs.Pages.{adds-both, adds-most}
 use borrow.Author.Needs.{needs}
 use Rattle.pages.proofs.put_item.Statement.{statement}
 use Rattle.pages.proofs.put_item.Tie as tie
-use Rattle.pages.proofs.put_item.Reads as reads
-use Rattle.pages.proofs.put_item.Lts as lts
-use Rattle.pages.proofs.put_item_end.Reads as put-item-end-reads
-use Rattle.pages.proofs.put_sound.Reads as put-sound-reads
-use Rattle.pages.proofs.put_ties.Reads as put-ties-reads
-use Rattle.pages.proofs.put_value.Reads as put-value-reads
 
 -- src/lib.rt:163:9
 put-value-requires : tie.Need-put-value-requires

@@ -1,20 +1,16 @@
 use mathlib.Core.Path.{subst, _∙_}
-use Rattle.pages.proofs.Pages.{adds-eq, adds-keys, text-none, adds-one, text-more, adds-both, adds-most, most-digits, digits-decimal, key-first, key-next, keys-more, no-keys}
+use Rattle.pages.proofs.Pages.{keys-more}
 use Rattle.pages.specs.Lines.{Keyed}
 use Prim.Native.Nat.{ℕ}
 use mathlib.Core.List.{_++_, List, append-nil}
 use lib.ListN.{length}
 use mathlib.Core.Path.{_≡_}
 use Prim.Native.Nat.{_+_, _-_, _*_, _≤_}
-use Rattle.pages.specs.Lines.{meterText, tempoText, fifthsText, keyText, itemEnd, bitKey, wordKeys, soundText}
-use borrow.Author.Tests.{lt-ltb, le-ltb, le-leb, lt-leb, eq-eqb, ne-eqb}
+use Rattle.pages.specs.Lines.{wordKeys}
 use native.Mathlib.Omega.{arith}
-use Rattle.pages.proofs.Pages.{text-none, adds-one, text-more, adds-both, adds-most, most-digits, digits-decimal, key-first, key-next, keys-more, no-keys}
+use Rattle.pages.proofs.Pages.{keys-more}
 use Rattle.pages.proofs.put_keys.Statement.{statement}
 use Rattle.pages.proofs.put_keys.Tie as tie
-use Rattle.pages.proofs.put_keys.Reads as reads
-use Rattle.pages.proofs.put_keys.Lts as lts
-use Rattle.pages.proofs.put_bit.Reads as put-bit-reads
 
 abbrev Inv-loop : tie.InvT-loop
 Inv-loop out₀ word base spot₀ k₀ out spot k = (k ≤ 64) × (length out ≡ length out₀) × (spot .at ≤ spot₀ .at + 21 * k)

@@ -1,13 +1,8 @@
 use Rattle.pages.specs.Lines.{letter}
-use native.Mathlib.Omega.{arith}
-use Rattle.pages.proofs.Pages.{adds-one, text-more, adds-both, adds-most}
-use borrow.Author.Tests.{lt-ltb, le-ltb, le-leb, lt-leb, eq-eqb, ne-eqb}
+use borrow.Author.Tests.{eq-eqb, ne-eqb}
 use borrow.Author.Needs.{needs}
 use Rattle.pages.proofs.put_letter.Statement.{statement}
 use Rattle.pages.proofs.put_letter.Tie as tie
-use Rattle.pages.proofs.put_letter.Reads as reads
-use Rattle.pages.proofs.put_letter.Lts as lts
-use Rattle.pages.proofs.put.Reads as put-reads
 
 -- src/lib.rt:110:9
 put-requires : tie.Need-put-requires

@@ -1,12 +1,7 @@
-use native.Mathlib.Omega.{arith}
-use Rattle.pages.proofs.Pages.{text-none, adds-one, text-more, adds-both, adds-most, most-digits, digits-decimal, key-first, key-next, keys-more, no-keys}
+use Rattle.pages.proofs.Pages.{adds-both}
 use borrow.Author.Needs.{needs}
 use Rattle.pages.proofs.put_next.Statement.{statement}
 use Rattle.pages.proofs.put_next.Tie as tie
-use Rattle.pages.proofs.put_next.Reads as reads
-use Rattle.pages.proofs.put_next.Lts as lts
-use Rattle.pages.proofs.put.Reads as put-reads
-use Rattle.pages.proofs.put_decimal.Reads as put-decimal-reads
 
 -- src/lib.rt:47:9
 put-requires : tie.Need-put-requires

@@ -1,19 +1,9 @@
-use mathlib.Core.List.{_∷_, append-nil}
-use mathlib.Core.Path.{ap}
-use Rattle.pages.specs.Lines.{decimal, meterText, tempoText, fifthsText, keyText, itemEnd, bitKey, wordKeys, soundText, valueText, tiesText, barHead, barMarks}
-use Rattle.pages.proofs.Pages.{adds-eq, adds-keys, text-none, adds-one, text-more, adds-both, adds-most, most-digits, digits-decimal, key-first, key-next, keys-more, no-keys}
-use Rattle.pages.specs.Lines.{meterText, tempoText, fifthsText, keyText, itemEnd, bitKey, wordKeys, soundText}
-use borrow.Author.Tests.{lt-ltb, le-ltb, le-leb, lt-leb, eq-eqb, ne-eqb}
+use Rattle.pages.proofs.Pages.{adds-both, adds-most}
 use native.Mathlib.Omega.{arith}
-use Rattle.pages.proofs.Pages.{text-none, adds-one, text-more, adds-both, adds-most, most-digits, digits-decimal, key-first, key-next, keys-more, no-keys}
+use Rattle.pages.proofs.Pages.{adds-both, adds-most}
 use borrow.Author.Needs.{needs}
 use Rattle.pages.proofs.put_part.Statement.{statement}
 use Rattle.pages.proofs.put_part.Tie as tie
-use Rattle.pages.proofs.put_part.Reads as reads
-use Rattle.pages.proofs.put_part.Lts as lts
-use Rattle.pages.proofs.put.Reads as put-reads
-use Rattle.pages.proofs.put_decimal.Reads as put-decimal-reads
-use Rattle.pages.proofs.put_text.Reads as put-text-reads
 
 -- src/lib.rt:154:31
 slice-aggregate-put-text : tie.Need-slice-aggregate-put-text

@@ -1,18 +1,12 @@
 use lib.ListN.{take}
 use mathlib.Core.List.{[]}
-use mathlib.Core.List.{_∷_, append-nil}
-use mathlib.Core.Path.{ap}
-use Rattle.pages.specs.Lines.{decimal, meterText, tempoText, fifthsText, keyText, itemEnd, bitKey, wordKeys, soundText, valueText, tiesText, barHead, barMarks}
-use borrow.Author.Tests.{lt-ltb, le-ltb, le-leb, lt-leb, eq-eqb, ne-eqb}
+use Rattle.pages.specs.Lines.{soundText}
+use borrow.Author.Tests.{eq-eqb, ne-eqb}
 use native.Mathlib.Omega.{arith}
-use Rattle.pages.proofs.Pages.{adds-eq, adds-keys, text-none, adds-one, text-more, adds-both, adds-most, most-digits, digits-decimal, key-first, key-next, keys-more, no-keys}
+use Rattle.pages.proofs.Pages.{adds-keys, adds-most, no-keys}
 use borrow.Author.Needs.{needs}
 use Rattle.pages.proofs.put_sound.Statement.{statement}
 use Rattle.pages.proofs.put_sound.Tie as tie
-use Rattle.pages.proofs.put_sound.Reads as reads
-use Rattle.pages.proofs.put_sound.Lts as lts
-use Rattle.pages.proofs.put_keys.Reads as put-keys-reads
-use Rattle.pages.proofs.put_text.Reads as put-text-reads
 
 -- src/lib.rt:108:34
 slice-aggregate-put-text : tie.Need-slice-aggregate-put-text

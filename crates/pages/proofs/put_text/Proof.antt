@@ -1,15 +1,13 @@
 use Rattle.pages.proofs.Pages.{text-none}
 use lib.Seq.{take-all}
 use lib.ListN.{length, take, length-set}
-use mathlib.Core.Path.{_≡_, refl, sym, ap, _∙_}
-use mathlib.Core.List.{_++_, append-nil}
+use mathlib.Core.Path.{_≡_, refl, ap, _∙_}
+use mathlib.Core.List.{_++_}
 use Prim.Native.Nat.{_+_, _-_, _≤_}
 use native.Mathlib.Omega.{arith}
-use Rattle.pages.proofs.Pages.{adds-one, text-more, adds-both, adds-most}
+use Rattle.pages.proofs.Pages.{text-more}
 use Rattle.pages.proofs.put_text.Statement.{statement}
 use Rattle.pages.proofs.put_text.Tie as tie
-use Rattle.pages.proofs.put_text.Reads as reads
-use Rattle.pages.proofs.put_text.Lts as lts
 
 abbrev Inv-loop : tie.InvT-loop
 Inv-loop out₀ at text i₀ out i = (i ≤ length text) × (length out ≡ length out₀) × (take (at + i) out ≡ take at out₀ ++ take i text)

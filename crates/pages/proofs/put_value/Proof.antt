@@ -1,16 +1,8 @@
-use mathlib.Core.List.{_∷_, append-nil}
-use mathlib.Core.Path.{ap}
-use Rattle.pages.specs.Lines.{decimal, meterText, tempoText, fifthsText, keyText, itemEnd, bitKey, wordKeys, soundText, valueText, tiesText, barHead, barMarks}
-use borrow.Author.Tests.{lt-ltb, le-ltb, le-leb, lt-leb, eq-eqb, ne-eqb}
-use native.Mathlib.Omega.{arith}
-use Rattle.pages.proofs.Pages.{adds-eq, adds-keys, text-none, adds-one, text-more, adds-both, adds-most, most-digits, digits-decimal, key-first, key-next, keys-more, no-keys}
+use Rattle.pages.specs.Lines.{valueText}
+use Rattle.pages.proofs.Pages.{adds-both}
 use borrow.Author.Needs.{needs}
 use Rattle.pages.proofs.put_value.Statement.{statement}
 use Rattle.pages.proofs.put_value.Tie as tie
-use Rattle.pages.proofs.put_value.Reads as reads
-use Rattle.pages.proofs.put_value.Lts as lts
-use Rattle.pages.proofs.put_decimal.Reads as put-decimal-reads
-use Rattle.pages.proofs.put_next.Reads as put-next-reads
 
 -- src/lib.rt:142:9
 put-decimal-requires : tie.Need-put-decimal-requires

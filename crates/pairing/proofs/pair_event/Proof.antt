@@ -3,7 +3,7 @@ use Prim.Native.Nat.{_<_}
 use mathlib.Core.Logic.{inl, inr}
 use mathlib.Core.Path.{refl, sym, _∙_}
 use native.Mathlib.Omega.{arith}
-use Rattle.words.proofs.Tracks.{note-bounds}
+use Rattle.track_events.proofs.Tracks.{note-bounds}
 use Rattle.pairing.proofs.Chains.{queue-empty}
 use Rattle.pairing.proofs.Outcomes.{stepped-on, stepped-other, stepped-unmatched, stepped-closed}
 use borrow.Author.Needs.{needs}

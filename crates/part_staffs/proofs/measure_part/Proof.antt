@@ -2,11 +2,10 @@
 use mathlib.Core.Path.{refl, sym}
 use native.Mathlib.Omega.{arith}
 use borrow.Author.Needs.{needs}
-use lib.ListN.{length}
 use Rattle.rules.specs.Piece.{Piece, piece}
 use Rattle.laws.specs.Admitted.{Admitted}
-use Rattle.door.specs.Opening.{Inside}
-use Rattle.door.proofs.Door.{turned-back, known, walked}
+use Rattle.opening.specs.Opening.{Inside}
+use Rattle.opening.proofs.Door.{turned-back, known, walked}
 use Rattle.part_staffs.proofs.Staffs.{tracked, size-given}
 use Rattle.part_staffs.proofs.measure_part.Statement.{statement}
 use Rattle.part_staffs.proofs.measure_part.Tie as tie

@@ -1,12 +1,11 @@
 -- `write_part`: the part's own track, in the bars of the first track.
-use mathlib.Core.Path.{refl, sym}
+use mathlib.Core.Path.{refl}
 use native.Mathlib.Omega.{arith}
 use borrow.Author.Needs.{needs}
-use lib.ListN.{length}
 use Rattle.rules.specs.Piece.{Piece, piece}
 use Rattle.laws.specs.Admitted.{Admitted}
-use Rattle.door.specs.Opening.{Inside}
-use Rattle.door.proofs.Door.{turned-back, known, walked}
+use Rattle.opening.specs.Opening.{Inside}
+use Rattle.opening.proofs.Door.{turned-back, known, walked}
 use Rattle.part_staffs.proofs.Staffs.{tracked, arrays-given, outputs-kept}
 use Rattle.part_staffs.proofs.write_part.Statement.{statement}
 use Rattle.part_staffs.proofs.write_part.Tie as tie

@@ -1,5 +1,5 @@
 -- `ons` counts note-ons. The invariant: the count so far and the note-ons of what is left make the whole.
-use Prim.Native.Nat.{_+_, _-_, _*_, _≤_}
+use Prim.Native.Nat.{_+_, _-_, _≤_}
 use mathlib.Core.Path.{ap, _≡_}
 use native.Mathlib.Omega.{arith}
 use lib.ListN.{length, drop}

@@ -4,7 +4,7 @@ use mathlib.Core.Path.{_∙_}
 use native.Mathlib.Omega.{arith}
 use borrow.Author.Tests.{le-leb}
 use borrow.Author.Needs.{needs}
-use Rattle.words.proofs.WordTable.{note-word}
+use Rattle.track_events.proofs.WordTable.{note-word}
 use Rattle.piece.proofs.plain.Statement.{statement}
 use Rattle.piece.proofs.plain.Tie as tie
 

@@ -1,11 +1,7 @@
 use mathlib.Core.Path.{_∙_, sym}
-use borrow.Author.Tests.{lt-ltb, le-ltb, le-leb, lt-leb, eq-eqb, ne-eqb}
 use borrow.Author.Needs.{needs}
 use Rattle.piece_text.proofs.ends_number.Statement.{statement}
 use Rattle.piece_text.proofs.ends_number.Tie as tie
-use Rattle.piece_text.proofs.ends_number.Reads as reads
-use Rattle.piece_text.proofs.ends_number.Lts as lts
-use Rattle.piece_text.proofs.is_blank.Reads as is-blank-reads
 
 -- src/lib.rt:63:8
 is-blank-requires : tie.Need-is-blank-requires

@@ -1,14 +1,9 @@
-use Rattle.piece_text.specs.Text.{putNumber, placeAfter, readOn, ended, isDigit, isBlank, threeLines, endsNumber}
+use Rattle.piece_text.specs.Text.{ended}
 use Rattle.piece_text.specs.Held.{Answers}
-use mathlib.Core.Path.{_∙_, sym, ap}
-use borrow.Author.Tests.{lt-ltb, le-ltb, le-leb, lt-leb, eq-eqb, ne-eqb}
+use mathlib.Core.Path.{_∙_, sym}
 use borrow.Author.Needs.{needs}
 use Rattle.piece_text.proofs.finish.Statement.{statement}
 use Rattle.piece_text.proofs.finish.Tie as tie
-use Rattle.piece_text.proofs.finish.Reads as reads
-use Rattle.piece_text.proofs.finish.Lts as lts
-use Rattle.piece_text.proofs.Place.has_three_lines.Reads as has-three-lines-reads
-use Rattle.piece_text.proofs.store_begun.Reads as store-begun-reads
 
 -- src/lib.rt:308:8
 has-three-lines-requires : tie.Need-has-three-lines-requires

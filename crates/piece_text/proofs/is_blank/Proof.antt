@@ -1,8 +1,6 @@
-use borrow.Author.Tests.{lt-ltb, le-ltb, le-leb, lt-leb, eq-eqb, ne-eqb}
+use borrow.Author.Tests.{eq-eqb, ne-eqb}
 use Rattle.piece_text.proofs.is_blank.Statement.{statement}
 use Rattle.piece_text.proofs.is_blank.Tie as tie
-use Rattle.piece_text.proofs.is_blank.Reads as reads
-use Rattle.piece_text.proofs.is_blank.Lts as lts
 
 -- src/lib.rt:52:9
 returns : tie.Need-returns

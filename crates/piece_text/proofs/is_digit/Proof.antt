@@ -1,8 +1,6 @@
-use borrow.Author.Tests.{lt-ltb, le-ltb, le-leb, lt-leb, eq-eqb, ne-eqb}
+use borrow.Author.Tests.{le-leb, lt-leb}
 use Rattle.piece_text.proofs.is_digit.Statement.{statement}
 use Rattle.piece_text.proofs.is_digit.Tie as tie
-use Rattle.piece_text.proofs.is_digit.Reads as reads
-use Rattle.piece_text.proofs.is_digit.Lts as lts
 
 -- src/lib.rt:43:9
 returns : tie.Need-returns

@@ -13,10 +13,6 @@ use mathlib.Core.Path.{_≡_, ap, _∙_, sym}
 use borrow.Author.Needs.{needs}
 use Rattle.piece_text.proofs.large_number.Statement.{statement}
 use Rattle.piece_text.proofs.large_number.Tie as tie
-use Rattle.piece_text.proofs.large_number.Reads as reads
-use Rattle.piece_text.proofs.large_number.Lts as lts
-use Rattle.piece_text.proofs.size.Reads as size-reads
-use Rattle.piece_text.proofs.total.Reads as total-reads
 
 -- src/lib.rt:364:9
 returns : tie.Need-returns

@@ -6,15 +6,12 @@ use mathlib.Core.Path.{_∙_}
 use Rattle.piece_text.proofs.Large.{held-whole, too-many-sizes}
 use Rattle.rules.specs.Piece.{piece}
 use lib.Seq.{length-take-le}
-use lib.ListN.{length, take}
+use lib.ListN.{length}
 use native.Mathlib.Omega.{arith}
-use mathlib.Core.Path.{_≡_, sym, ap}
+use mathlib.Core.Path.{sym, ap}
 use mathlib.Core.Logic.{inl, inr}
 use Rattle.piece_text.proofs.number_due.Statement.{statement}
 use Rattle.piece_text.proofs.number_due.Tie as tie
-use Rattle.piece_text.proofs.number_due.Reads as reads
-use Rattle.piece_text.proofs.number_due.Lts as lts
-use Rattle.piece_text.proofs.large_number.Reads as large-number-reads
 
 -- src/lib.rt:399:9
 returns : tie.Need-returns

@@ -6,12 +6,9 @@ use lib.ListN.{length, take}
 use mathlib.Core.Path.{_≡_}
 use Prim.Native.Nat.{_-_, _≤_}
 use native.Mathlib.Omega.{arith}
-use Rattle.piece_text.proofs.Reading.{held-stored, held-counted, held-full, read-one}
+use Rattle.piece_text.proofs.Reading.{read-one}
 use Rattle.piece_text.proofs.read_bytes.Statement.{statement}
 use Rattle.piece_text.proofs.read_bytes.Tie as tie
-use Rattle.piece_text.proofs.read_bytes.Reads as reads
-use Rattle.piece_text.proofs.read_bytes.Lts as lts
-use Rattle.piece_text.proofs.step.Reads as step-reads
 
 abbrev Inv-loop : tie.InvT-loop
 Inv-loop bytes sizes₀ deltas₀ words₀ state₀ i₀ sizes deltas words state i = (i ≤ length bytes) × (length sizes ≡ length sizes₀) × (length deltas ≡ length deltas₀) × (length words ≡ length words₀)

@@ -1,11 +1,6 @@
 use borrow.Author.Needs.{needs}
 use Rattle.piece_text.proofs.read_text.Statement.{statement}
 use Rattle.piece_text.proofs.read_text.Tie as tie
-use Rattle.piece_text.proofs.read_text.Reads as reads
-use Rattle.piece_text.proofs.read_text.Lts as lts
-use Rattle.piece_text.proofs.finish.Reads as finish-reads
-use Rattle.piece_text.proofs.read_bytes.Reads as read-bytes-reads
-use Rattle.piece_text.proofs.start.Reads as start-reads
 
 -- src/lib.rt:324:29
 start-requires : tie.Need-start-requires

@@ -2,8 +2,6 @@ use Rattle.piece_text.proofs.Reading.{none-held}
 use mathlib.Core.Path.{refl}
 use Rattle.piece_text.proofs.start.Statement.{statement}
 use Rattle.piece_text.proofs.start.Tie as tie
-use Rattle.piece_text.proofs.start.Reads as reads
-use Rattle.piece_text.proofs.start.Lts as lts
 
 -- src/lib.rt:257:1
 returns : tie.Need-returns

@@ -1,14 +1,7 @@
-use Rattle.piece_text.specs.Text.{putNumber, placeAfter, readOn, ended, isDigit, isBlank, threeLines, endsNumber}
-use mathlib.Core.Path.{_∙_, sym, ap}
-use borrow.Author.Tests.{lt-ltb, le-ltb, le-leb, lt-leb, eq-eqb, ne-eqb}
+use mathlib.Core.Path.{_∙_, sym}
 use borrow.Author.Needs.{needs}
 use Rattle.piece_text.proofs.step.Statement.{statement}
 use Rattle.piece_text.proofs.step.Tie as tie
-use Rattle.piece_text.proofs.step.Reads as reads
-use Rattle.piece_text.proofs.step.Lts as lts
-use Rattle.piece_text.proofs.Place.after.Reads as after-reads
-use Rattle.piece_text.proofs.ends_number.Reads as ends-number-reads
-use Rattle.piece_text.proofs.store_begun.Reads as store-begun-reads
 
 -- src/lib.rt:245:9
 after-requires : tie.Need-after-requires

@@ -1,9 +1,7 @@
-use Rattle.piece_text.proofs.Reading.{held-stored, held-counted, held-full, read-one}
+use Rattle.piece_text.proofs.Reading.{held-stored, held-counted, held-full}
 use borrow.Author.Needs.{needs}
 use Rattle.piece_text.proofs.store.Statement.{statement}
 use Rattle.piece_text.proofs.store.Tie as tie
-use Rattle.piece_text.proofs.store.Reads as reads
-use Rattle.piece_text.proofs.store.Lts as lts
 
 -- src/lib.rt:168:9
 returns : tie.Need-returns

@@ -1,10 +1,6 @@
-use borrow.Author.Tests.{lt-ltb, le-ltb, le-leb, lt-leb, eq-eqb, ne-eqb}
 use borrow.Author.Needs.{needs}
 use Rattle.piece_text.proofs.store_begun.Statement.{statement}
 use Rattle.piece_text.proofs.store_begun.Tie as tie
-use Rattle.piece_text.proofs.store_begun.Reads as reads
-use Rattle.piece_text.proofs.store_begun.Lts as lts
-use Rattle.piece_text.proofs.store_number.Reads as store-number-reads
 
 -- src/lib.rt:227:9
 store-number-requires : tie.Need-store-number-requires

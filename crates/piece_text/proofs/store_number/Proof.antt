@@ -1,11 +1,8 @@
-use Rattle.piece_text.specs.Text.{putNumber, placeAfter, readOn, ended, isDigit, isBlank, threeLines, endsNumber}
-use borrow.Author.Tests.{lt-ltb, le-ltb, le-leb, lt-leb, eq-eqb, ne-eqb}
+use Rattle.piece_text.specs.Text.{putNumber}
+use borrow.Author.Tests.{eq-eqb, ne-eqb}
 use borrow.Author.Needs.{needs}
 use Rattle.piece_text.proofs.store_number.Statement.{statement}
 use Rattle.piece_text.proofs.store_number.Tie as tie
-use Rattle.piece_text.proofs.store_number.Reads as reads
-use Rattle.piece_text.proofs.store_number.Lts as lts
-use Rattle.piece_text.proofs.store.Reads as store-reads
 
 -- src/lib.rt:189:13
 store-requires : tie.Need-store-requires

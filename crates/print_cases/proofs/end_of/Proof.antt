@@ -3,8 +3,6 @@ use native.Mathlib.Omega.{arith}
 use lib.ListN.{length}
 use Rattle.print_cases.proofs.end_of.Statement.{statement}
 use Rattle.print_cases.proofs.end_of.Tie as tie
-use Rattle.print_cases.proofs.end_of.Reads as reads
-use Rattle.print_cases.proofs.end_of.Lts as lts
 
 abbrev Inv-loop : tie.InvT-loop
 Inv-loop texts from i₀ i = (from ≤ i) × (i ≤ length texts)

@@ -4,11 +4,6 @@ use native.Mathlib.Omega.{arith}
 use lib.ListN.{length}
 use Rattle.print_cases.proofs.print_texts.Statement.{statement}
 use Rattle.print_cases.proofs.print_texts.Tie as tie
-use Rattle.print_cases.proofs.print_texts.Reads as reads
-use Rattle.print_cases.proofs.print_texts.Lts as lts
-use Rattle.io.proofs.write_all.Reads as write-all-reads
-use Rattle.print_cases.proofs.end_of.Reads as end-of-reads
-use Rattle.printer.proofs.print_text.Reads as print-text-reads
 
 abbrev Inv-loop : tie.InvT-loop
 Inv-loop texts from₀ t4 from = (from ≤ length texts) × (length t4 ≡ 2)

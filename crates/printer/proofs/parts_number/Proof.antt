@@ -1,12 +1,9 @@
 use lib.ListN.{length}
 use mathlib.Core.Path.{_≡_}
-use Prim.Native.Nat.{_+_, _-_, _*_, _≤_}
+use Prim.Native.Nat.{_-_}
 use native.Mathlib.Omega.{arith}
 use Rattle.printer.proofs.parts_number.Statement.{statement}
 use Rattle.printer.proofs.parts_number.Tie as tie
-use Rattle.printer.proofs.parts_number.Reads as reads
-use Rattle.printer.proofs.parts_number.Lts as lts
-use Rattle.printer.proofs.part_number.Reads as part-number-reads
 
 abbrev Inv-loop : tie.InvT-loop
 Inv-loop sizes deltas words parts work₀ part₀ work part = length work ≡ length work₀

@@ -1,14 +1,9 @@
 use lib.ListN.{length}
 use mathlib.Core.Path.{_≡_}
-use Prim.Native.Nat.{_+_, _-_, _*_, _≤_}
+use Prim.Native.Nat.{_-_, _≤_}
 use native.Mathlib.Omega.{arith}
 use Rattle.printer.proofs.print_bars.Statement.{statement}
 use Rattle.printer.proofs.print_bars.Tie as tie
-use Rattle.printer.proofs.print_bars.Reads as reads
-use Rattle.printer.proofs.print_bars.Lts as lts
-use Rattle.pages.proofs.put_bar.Reads as put-bar-reads
-use Rattle.printer.proofs.make_room.Reads as make-room-reads
-use Rattle.printer.proofs.print_voices.Reads as print-voices-reads
 
 abbrev Inv-loop : tie.InvT-loop
 Inv-loop p bars starts marks counts heads keys at out₀ spot₀ bar₀ out spot bar = (bar ≤ bars) × (spot .at ≤ 65536) × (length out ≡ 65536)

@@ -4,11 +4,6 @@ use native.Mathlib.Omega.{arith}
 use borrow.Author.Needs.{needs}
 use Rattle.printer.proofs.print_held.Statement.{statement}
 use Rattle.printer.proofs.print_held.Tie as tie
-use Rattle.printer.proofs.print_held.Reads as reads
-use Rattle.printer.proofs.print_held.Lts as lts
-use Rattle.piece_text.proofs.number_due.Reads as number-due-reads
-use Rattle.printer.proofs.print_piece.Reads as print-piece-reads
-use Rattle.printer.proofs.refuse.Reads as refuse-reads
 
 -- src/main.rt:301:9
 number-due-requires : tie.Need-number-due-requires

@@ -1,13 +1,9 @@
 use lib.ListN.{length}
 use mathlib.Core.Path.{_≡_}
-use Prim.Native.Nat.{_+_, _-_, _*_, _≤_}
+use Prim.Native.Nat.{_-_, _≤_}
 use native.Mathlib.Omega.{arith}
 use Rattle.printer.proofs.print_items.Statement.{statement}
 use Rattle.printer.proofs.print_items.Tie as tie
-use Rattle.printer.proofs.print_items.Reads as reads
-use Rattle.printer.proofs.print_items.Lts as lts
-use Rattle.pages.proofs.put_item.Reads as put-item-reads
-use Rattle.printer.proofs.make_room.Reads as make-room-reads
 
 abbrev Inv-loop : tie.InvT-loop
 Inv-loop voice n heads keys out₀ at₀ item₀ i₀ out at item i = (i ≤ n) × (at ≤ 65536) × (length out ≡ 65536)

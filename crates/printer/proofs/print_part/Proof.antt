@@ -2,13 +2,6 @@ use native.Mathlib.Omega.{arith}
 use borrow.Author.Needs.{needs}
 use Rattle.printer.proofs.print_part.Statement.{statement}
 use Rattle.printer.proofs.print_part.Tie as tie
-use Rattle.printer.proofs.print_part.Reads as reads
-use Rattle.printer.proofs.print_part.Lts as lts
-use Rattle.calls.proofs.engrave.Reads as engrave-reads
-use Rattle.pages.proofs.put_part.Reads as put-part-reads
-use Rattle.piece.proofs.ticks_per_quarter.Reads as ticks-per-quarter-reads
-use Rattle.printer.proofs.make_room.Reads as make-room-reads
-use Rattle.printer.proofs.print_bars.Reads as print-bars-reads
 
 -- src/main.rt:204:36
 engrave-requires : tie.Need-engrave-requires

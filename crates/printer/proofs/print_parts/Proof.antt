@@ -1,16 +1,10 @@
 use borrow.Author.Needs.{needs}
 use lib.ListN.{length}
 use mathlib.Core.Path.{_≡_}
-use Prim.Native.Nat.{_+_, _-_, _*_, _≤_}
+use Prim.Native.Nat.{_-_, _≤_}
 use native.Mathlib.Omega.{arith}
 use Rattle.printer.proofs.print_parts.Statement.{statement}
 use Rattle.printer.proofs.print_parts.Tie as tie
-use Rattle.printer.proofs.print_parts.Reads as reads
-use Rattle.printer.proofs.print_parts.Lts as lts
-use Rattle.calls.proofs.bars.Reads as bars-reads
-use Rattle.io.proofs.large_buffer.Reads as large-buffer-reads
-use Rattle.printer.proofs.print_part.Reads as print-part-reads
-use Rattle.printer.proofs.write_first.Reads as write-first-reads
 
 abbrev Inv-loop : tie.InvT-loop
 Inv-loop sizes deltas words parts work₀ starts marks counts₀ heads₀ keys₀ out₀ at₀ part₀ work counts heads keys out at part =

@@ -1,12 +1,9 @@
 use lib.ListN.{length}
 use mathlib.Core.Path.{_≡_}
-use Prim.Native.Nat.{_+_, _-_, _*_, _≤_}
+use Prim.Native.Nat.{_-_, _≤_}
 use native.Mathlib.Omega.{arith}
 use Rattle.printer.proofs.print_voices.Statement.{statement}
 use Rattle.printer.proofs.print_voices.Tie as tie
-use Rattle.printer.proofs.print_voices.Reads as reads
-use Rattle.printer.proofs.print_voices.Lts as lts
-use Rattle.printer.proofs.print_items.Reads as print-items-reads
 
 abbrev Inv-loop : tie.InvT-loop
 Inv-loop counts bar heads keys out₀ next₀ voice₀ out next voice = (voice ≤ 4) × (next .at ≤ 65536) × (length out ≡ 65536)

@@ -1,13 +1,8 @@
 use lib.ListN.{length}
 use mathlib.Core.Path.{_≡_}
-use Prim.Native.Nat.{_+_, _-_, _*_, _≤_}
 use native.Mathlib.Omega.{arith}
 use Rattle.printer.proofs.read_all.Statement.{statement}
 use Rattle.printer.proofs.read_all.Tie as tie
-use Rattle.printer.proofs.read_all.Reads as reads
-use Rattle.printer.proofs.read_all.Lts as lts
-use Rattle.piece_text.proofs.start.Reads as start-reads
-use Rattle.printer.proofs.read_some.Reads as read-some-reads
 
 abbrev Inv-loop : tie.InvT-loop
 Inv-loop sizes₀ deltas₀ words₀ reader₀ turns₀ sizes deltas words reader turns = (length sizes ≡ length sizes₀) × (length deltas ≡ length deltas₀) × (length words ≡ length words₀)

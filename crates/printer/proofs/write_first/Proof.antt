@@ -4,9 +4,6 @@ use mathlib.Core.Path.{sym}
 use borrow.Author.Needs.{needs}
 use Rattle.printer.proofs.write_first.Statement.{statement}
 use Rattle.printer.proofs.write_first.Tie as tie
-use Rattle.printer.proofs.write_first.Reads as reads
-use Rattle.printer.proofs.write_first.Lts as lts
-use Rattle.io.proofs.write_all.Reads as write-all-reads
 
 -- src/main.rt:67:34
 slice-aggregate-write-all : tie.Need-slice-aggregate-write-all

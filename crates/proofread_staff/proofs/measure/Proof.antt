@@ -2,8 +2,8 @@
 use Prim.Native.Nat.{_-_}
 use mathlib.Core.Path.{ap}
 use native.Mathlib.Omega.{arith}
-use Rattle.bars.proofs.WalkLaws.{walking-sane, walking-ready}
-use Rattle.bars.specs.declared.Walker.{Walker}
+use Rattle.bar_walk.proofs.WalkLaws.{walking-sane, walking-ready}
+use Rattle.bar_walk.specs.declared.Walker.{Walker}
 use Rattle.proofread_staff.specs.declared.Measured.{Measured}
 use Rattle.proofread_staff.proofs.Measuring.{Measuring, measuring-start, measuring-last, measuring-more, measuring-end, long}
 use Rattle.proofread_staff.proofs.measure.Statement.{statement}

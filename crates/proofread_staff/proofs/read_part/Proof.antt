@@ -4,8 +4,8 @@ use mathlib.Core.List.{List}
 use native.Mathlib.Omega.{arith}
 use borrow.Author.Tests.{not-true, not-false}
 use borrow.Author.Needs.{needs}
-use Rattle.words.proofs.Ranges.{track-notes}
-use Rattle.words.specs.Track.{eventsOf}
+use Rattle.track_events.proofs.Ranges.{track-notes}
+use Rattle.track_events.specs.Track.{eventsOf}
 use Rattle.rules.specs.ProofReaderTests.{right?}
 use Rattle.rules.specs.Items.{Staff, readStaff}
 use Rattle.rules.specs.Grid.{grid}

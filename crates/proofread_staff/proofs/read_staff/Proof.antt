@@ -5,7 +5,7 @@ use mathlib.Core.List.{List}
 use native.Mathlib.Omega.{arith}
 use borrow.Author.Tests.{not-true, not-false}
 use Rattle.proofread_notes.proofs.Areas.{readable-same, same-then}
-use Rattle.words.specs.Track.{eventsOf}
+use Rattle.track_events.specs.Track.{eventsOf}
 use Rattle.rules.specs.Items.{readStaff}
 use Rattle.rules.specs.Bars.{Bar, barsIn, mostBars}
 use Rattle.proofread_staff.proofs.Staffing.{Voices, voices-start, voices-more, staff-fails, staff-end, fours-read}

@@ -5,8 +5,8 @@ use native.Mathlib.Omega.{arith}
 use borrow.Author.Needs.{needs}
 use borrow.Author.Tests.{not-true, not-false}
 use Rattle.proofread_notes.proofs.Areas.{readable-same}
-use Rattle.bars.specs.declared.Walker.{Walker}
-use Rattle.bars.proofs.WalkLaws.{walking-sane, walking-ready}
+use Rattle.bar_walk.specs.declared.Walker.{Walker}
+use Rattle.bar_walk.proofs.WalkLaws.{walking-sane, walking-ready}
 use Rattle.rules.specs.Bars.{mostBars}
 use Rattle.proofread_voices.proofs.Walks.{Along, along-start, along-end, along-fails, along-last, along-more, some-left, four-left, four-fit, items-fit, past-paced, voice-ends}
 use Rattle.proofread_voices.proofs.read_voice.Statement.{statement}

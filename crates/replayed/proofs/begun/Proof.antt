@@ -1,8 +1,5 @@
 -- `replayed::begun` meets its contract: a digit, a gap or a word.
-use mathlib.Core.Path.{_≡_, refl, sym, ap, _∙_}
-use mathlib.Core.Bool.{Bool, true, false}
-use Prim.Native.Nat.{ℕ, _+_, _*_, _-_, _^_, _≤_, _<_}
-use native.Mathlib.Omega.{arith}
+use mathlib.Core.Path.{sym, _∙_}
 use Rattle.replayed.proofs.Laws.{digit-low, begun-digit, begun-gap, begun-word, gap-label, gap-low, gap-none}
 use borrow.Author.Needs.{needs}
 use Rattle.replayed.proofs.begun.Statement.{statement}

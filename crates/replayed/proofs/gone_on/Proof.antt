@@ -1,7 +1,5 @@
 -- `replayed::gone_on` meets its contract: one digit more, the end of the number, or a word.
-use mathlib.Core.Path.{_≡_, refl, sym, ap, _∙_}
-use mathlib.Core.Bool.{Bool, true, false}
-use Prim.Native.Nat.{ℕ, _+_, _*_, _-_, _^_, _≤_, _<_}
+use mathlib.Core.Path.{sym, _∙_}
 use native.Mathlib.Omega.{arith}
 use Rattle.replayed.proofs.Laws.{digit-low, on-digit, on-large, on-gap, on-word, gap-label, gap-low, gap-none}
 use borrow.Author.Needs.{needs}

@@ -2,7 +2,6 @@
 use Prim.Native.Nat.{_-_}
 use mathlib.Core.Path.{refl}
 use native.Mathlib.Omega.{arith}
-use borrow.Author.Needs.{needs}
 use Rattle.items.specs.Writing.{quarter}
 use Rattle.staff.specs.Bars.{CanPush}
 use Rattle.staff.proofs.BarWalk.{Midway, midway-start, midway-counts, midway-heads, midway-keys, midway-can, midway-more, midway-end}

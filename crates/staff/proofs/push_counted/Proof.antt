@@ -1,7 +1,6 @@
 -- `push_counted`: the voice, then its count.
 use Prim.Native.Nat.{_-_, _<_, _^_}
-use mathlib.Core.List.{[], _∷_}
-use mathlib.Core.Path.{_≡_, sym}
+use mathlib.Core.Path.{_≡_}
 use native.Mathlib.Omega.{arith}
 use borrow.Author.Needs.{needs}
 use lib.Dec.{eqb}

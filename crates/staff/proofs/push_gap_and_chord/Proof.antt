@@ -2,7 +2,6 @@
 use Prim.Native.Nat.{_-_, max}
 use mathlib.Core.List.{List}
 use mathlib.Core.Path.{refl}
-use native.Mathlib.Omega.{arith}
 use borrow.Author.Needs.{needs}
 use Rattle.rules.specs.Items.{Item}
 use Rattle.rules.specs.Staff.{rests, chordIn}

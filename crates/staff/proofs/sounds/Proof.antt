@@ -1,10 +1,7 @@
 -- `sounds`: each way out rewrites the definition by its test.
-use Prim.Native.Nat.{_<_}
-use mathlib.Core.Path.{_≡_, sym, ap, _∙_}
-use native.Mathlib.Omega.{arith}
+use mathlib.Core.Path.{sym, ap, _∙_}
 use borrow.Author.Tests.{lt-ltb, le-ltb}
 use Rattle.rules.specs.Voices.{Chord}
-use Rattle.staff.specs.Voices.{voiceOf, chordOf}
 use Rattle.staff.proofs.VoiceWalk.{voice-get, can-read}
 use Rattle.staff.proofs.sounds.Statement.{statement}
 use Rattle.staff.proofs.sounds.Tie as tie

@@ -3,7 +3,7 @@ use Prim.Native.Nat.{_+_, _-_, _<_, _^_}
 use mathlib.Core.Path.{_∙_}
 use native.Mathlib.Omega.{arith}
 use borrow.Author.Needs.{needs}
-use Rattle.bars.proofs.WalkLaws.{walking-sane, walking-ready}
+use Rattle.bar_walk.proofs.WalkLaws.{walking-sane, walking-ready}
 use Rattle.items.specs.Writing.{quarter}
 use Rattle.staff.proofs.StaffWalk.{Onward, onward-start, onward-counts, onward-heads, onward-keys, onward-end-soon, onward-can, onward-more, onward-last, onward-end}
 use Rattle.staff.proofs.transcribe_track.Statement.{statement}

@@ -3,7 +3,7 @@ use mathlib.Core.Path.{sym, _∙_}
 use native.Mathlib.Omega.{arith}
 use borrow.Author.Needs.{needs}
 use borrow.Author.Tests.{ne-eqb}
-use Rattle.words.proofs.Tracks.{meter-bounds}
+use Rattle.track_events.proofs.Tracks.{meter-bounds}
 use Rattle.changes.specs.Reads.{took}
 use Rattle.changes.proofs.Reading.take.Statement.{statement}
 use Rattle.changes.proofs.Reading.take.Tie as tie

@@ -1,19 +1,11 @@
 use mathlib.Core.Bool.{and-eq-true-iff}
 use borrow.Author.Tests.{leb-true}
-use Rattle.piece_text.specs.Text.{putNumber, placeAfter, readOn, ended, isDigit, isBlank, threeLines, endsNumber}
-use mathlib.Core.Path.{_∙_, sym, ap}
-use borrow.Author.Tests.{lt-ltb, le-ltb, le-leb, lt-leb, eq-eqb, ne-eqb}
+use Rattle.piece_text.specs.Text.{placeAfter}
+use mathlib.Core.Path.{_∙_, sym}
+use borrow.Author.Tests.{lt-ltb, le-ltb, eq-eqb, ne-eqb}
 use borrow.Author.Needs.{needs}
 use Rattle.piece_text.proofs.Place.after.Statement.{statement}
 use Rattle.piece_text.proofs.Place.after.Tie as tie
-use Rattle.piece_text.proofs.Place.after.Reads as reads
-use Rattle.piece_text.proofs.Place.after.Lts as lts
-use Rattle.piece_text.proofs.Place.digit.Reads as digit-reads
-use Rattle.piece_text.proofs.Place.end_line.Reads as end-line-reads
-use Rattle.piece_text.proofs.Place.end_number.Reads as end-number-reads
-use Rattle.piece_text.proofs.Place.spoil.Reads as spoil-reads
-use Rattle.piece_text.proofs.is_blank.Reads as is-blank-reads
-use Rattle.piece_text.proofs.is_digit.Reads as is-digit-reads
 
 -- src/lib.rt:129:13
 spoil-requires : tie.Need-spoil-requires

@@ -1,11 +1,7 @@
-use mathlib.Core.Path.{_∙_, sym, ap}
-use borrow.Author.Tests.{lt-ltb, le-ltb, le-leb, lt-leb, eq-eqb, ne-eqb}
+use borrow.Author.Tests.{lt-ltb, le-ltb}
 use borrow.Author.Needs.{needs}
 use Rattle.piece_text.proofs.Place.digit.Statement.{statement}
 use Rattle.piece_text.proofs.Place.digit.Tie as tie
-use Rattle.piece_text.proofs.Place.digit.Reads as reads
-use Rattle.piece_text.proofs.Place.digit.Lts as lts
-use Rattle.piece_text.proofs.Place.spoil.Reads as spoil-reads
 
 -- src/lib.rt:86:21
 cast-value : tie.Need-cast-value

@@ -1,9 +1,7 @@
-use borrow.Author.Tests.{lt-ltb, le-ltb, le-leb, lt-leb, eq-eqb, ne-eqb}
+use borrow.Author.Tests.{eq-eqb, ne-eqb}
 use borrow.Author.Needs.{needs}
 use Rattle.piece_text.proofs.Place.has_three_lines.Statement.{statement}
 use Rattle.piece_text.proofs.Place.has_three_lines.Tie as tie
-use Rattle.piece_text.proofs.Place.has_three_lines.Reads as reads
-use Rattle.piece_text.proofs.Place.has_three_lines.Lts as lts
 
 -- src/lib.rt:148:13
 returns : tie.Need-returns

@@ -1,0 +1,79 @@
+-- The words of the four lists: their kinds are 10 to 14, so each names a channel below 16, and the array of dropped channels answers for it.
+use Prim.Native.Nat.{ℕ, suc, _+_, _≤_, _<_}
+use mathlib.Core.Bool.{Bool, true, false, not, _&&_}
+use mathlib.Core.List.{List, [], _∷_}
+use mathlib.Core.Logic.{inl, inr, ⊎-elim}
+use mathlib.Core.Path.{_≡_}
+use native.Mathlib.Omega.{arith}
+use borrow.Author.Tests.{eqb-true, ne-eqb}
+use Rattle.rules.specs.Lists.{All, keep}
+use Rattle.rules.specs.Piece.{Event, timed, kindOf, channelOf, wellFormed}
+use Rattle.rules.specs.Automation.{isAutomation, isDropped, automation}
+use Rattle.laws.proofs.Lists.{All-imp}
+use Rattle.laws.proofs.Order.{by-bool, by-eq, by-or}
+use Rattle.track_events.specs.Track.{Track, eventsOf}
+use Rattle.track_events.proofs.Tracks.{channel-bounds}
+use Rattle.automation_events.specs.declared.Kind.{Kind}
+use Rattle.automation_events.specs.declared.Kind.the-variants.{Bend, Controller, Program, Pressure}
+use Rattle.automation_events.specs.Kinds.{Drops, isOne, wanted}
+use Rattle.laws.proofs.Tests.{keep-same}
+
+module _ (w : ℕ) where
+  outside : (kindOf w ≡ 14 → ⊥) → (kindOf w ≡ 11 → ⊥) → (kindOf w ≡ 12 → ⊥) → (kindOf w ≡ 10 → ⊥) → (kindOf w ≡ 13 → ⊥) → isAutomation w ≡ false
+  outside a b c d e =
+      rw (ne-eqb (kindOf w) 14 a, ne-eqb (kindOf w) 11 b, ne-eqb (kindOf w) 12 c, ne-eqb (kindOf w) 10 d, ne-eqb (kindOf w) 13 e)
+
+  pub automation-low : kindOf w < 10 → isAutomation w ≡ false
+  automation-low h = outside (λ e. omega arith) (λ e. omega arith) (λ e. omega arith) (λ e. omega arith) (λ e. omega arith)
+
+  pub automation-high : 14 < kindOf w → isAutomation w ≡ false
+  automation-high h = outside (λ e. omega arith) (λ e. omega arith) (λ e. omega arith) (λ e. omega arith) (λ e. omega arith)
+
+  pub automation-kind : 10 ≤ kindOf w → kindOf w ≤ 14 → isAutomation w ≡ true
+  automation-kind l h =
+      elim (by-eq (kindOf w) 10) [
+        | inl e ↦ rw e
+        | inr e₁₀ ↦
+            elim (by-eq (kindOf w) 11) [
+              | inl e ↦ rw e
+              | inr e₁₁ ↦
+                  elim (by-eq (kindOf w) 12) [
+                    | inl e ↦ rw e
+                    | inr e₁₂ ↦
+                        elim (by-eq (kindOf w) 13) [ inl e ↦ rw e | inr e₁₃ ↦ let e : kindOf w ≡ 14 = omega arith in rw e ]
+                  ]
+            ]
+      ]
+
+  kinds : (k : Kind) → isOne k w ≡ true → (10 ≤ kindOf w) × (kindOf w ≤ 14)
+  kinds Bend h = let e : kindOf w ≡ 14 = eqb-true _ _ h in (omega arith, omega arith)
+  kinds Controller h = let e : kindOf w ≡ 11 = eqb-true _ _ h in (omega arith, omega arith)
+  kinds Program h = let e : kindOf w ≡ 12 = eqb-true _ _ h in (omega arith, omega arith)
+  kinds Pressure h =
+      ⊎-elim
+      (λ g. let e : kindOf w ≡ 10 = eqb-true _ _ g in (omega arith, omega arith))
+      (λ g. let e : kindOf w ≡ 13 = eqb-true _ _ g in (omega arith, omega arith))
+      (by-or _ _ h)
+
+  module _ (formed : wellFormed w ≡ true) (k : Kind) where
+    pub one-channel : isOne k w ≡ true → channelOf w < 16
+    one-channel h = let r = kinds k h in channel-bounds w formed (omega arith) (omega arith) .channel
+
+    wanted-same : (es : List Event) (dropped : List Bool) → Drops es dropped
+        → wanted k dropped w ≡ (isOne k w && not (isDropped es (channelOf w)))
+    wanted-same es dropped d = elim (by-bool (isOne k w)) [ inl t ↦ rw (t, d .at (channelOf w) (one-channel t)) | inr t ↦ rw t ]
+
+-- what holds of all words holds of the word of every event
+words-all : (P : ℕ → Type 0) (n t : ℕ) (ds ws : List ℕ) → All P ws → All (λ (e : Event). P (e .word)) (timed n t ds ws)
+unfolding timed
+words-all P n t [] ws h = tt
+words-all P n t (d ∷ ds) [] h = tt
+words-all P n t (d ∷ ds) (w ∷ ws) h = (h .0, words-all P (suc n) (t + d) ds ws (h .1))
+
+-- the events that the array leaves are section 9's list
+pub wanted-automation : {ds ws : List ℕ} → Track ds ws → {dropped : List Bool} → Drops (eventsOf ds ws) dropped → (k : Kind)
+    → keep (λ (e : Event). wanted k dropped (e .word)) (eventsOf ds ws) ≡ automation (isOne k) (eventsOf ds ws)
+wanted-automation {ds} {ws} track {dropped} drops k =
+    let es = eventsOf ds ws in
+    let formed = words-all (λ w. wellFormed w ≡ true) 0 0 ds ws (track .formed) in
+    keep-same _ _ es (All-imp (λ (e : Event) f. wanted-same (e .word) f k es dropped drops) es formed)

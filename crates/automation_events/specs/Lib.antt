@@ -1,0 +1,4 @@
+pub mod Kinds
+pub mod Markers
+pub mod Mirror
+pub mod Writing

@@ -1,6 +1,0 @@
-pub mod AutomationOutcomes
-pub mod BarOutcomes
-pub mod DiagnosticsOutcomes
-pub mod Door
-pub mod Heads
-pub mod StaffOutcomes

@@ -1,0 +1,4 @@
+pub mod FirstTrack
+pub mod Groups
+pub mod Searching
+pub mod Walking

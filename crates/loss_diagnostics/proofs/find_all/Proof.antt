@@ -1,0 +1,53 @@
+-- `find_all` puts the groups one after another.
+use native.Mathlib.Omega.{arith}
+use borrow.Author.Needs.{needs}
+use Rattle.laws.proofs.Refusals.{sizes-agree}
+use Rattle.loss_diagnostics.proofs.Groups.{all-found}
+use Rattle.loss_diagnostics.proofs.find_all.Statement.{statement}
+use Rattle.loss_diagnostics.proofs.find_all.Tie as tie
+
+find-timecode-requires : tie.Need-find-timecode-requires
+find-timecode-requires c κs = omega (arith, sizes-agree _ (c .before .before .before .before .before .before .before .before .pre .admitted .sizes) .sizes)
+
+find-off-measure-requires : tie.Need-find-off-measure-requires
+find-off-measure-requires c κs =
+    let one = c .before .before .before .before .before .before in
+    let known = one .before .before .before .before .before .before .before .before .before .pre .admitted in
+    (known, omega (arith, known .events, one .find-timecode .ensures .few))
+
+system-events-requires : tie.Need-system-events-requires
+system-events-requires c κs =
+    let two = c .before .before .before .before .before .before in
+    let one = two .before .before .before .before .before .before .before in
+    let known = one .before .before .before .before .before .before .before .before .before .pre .admitted in
+    (known, omega (arith, known .events, one .find-timecode .ensures .few, two .find-off-measure .ensures .few))
+
+unmatched-tracks-requires : tie.Need-unmatched-tracks-requires
+unmatched-tracks-requires c κs =
+    let three = c .before .before .before .before .before .before .before in
+    let two = three .before .before .before .before .before .before .before in
+    let one = two .before .before .before .before .before .before .before in
+    let can = one .before .before .before .before .before .before .before .before .before .pre in
+    (can, omega (arith, can .admitted .events, one .find-timecode .ensures .few, two .find-off-measure .ensures .few, three .system-events .ensures .few))
+
+returns : tie.Need-returns
+returns c =
+    let four = c .before .before .before .before .before .before in
+    let three = four .before .before .before .before .before .before .before .before in
+    let two = three .before .before .before .before .before .before .before in
+    let one = two .before .before .before .before .before .before .before in
+    all-found _ (one .before .before .before .before .before .before .before .before .before .pre .admitted .events) (one .find-timecode .ensures) (two .find-off-measure .ensures) (three .system-events .ensures)
+    (four .unmatched-tracks .ensures)
+
+pub find-all-spec : {M : Type 1} → statement M
+find-all-spec =
+    tie.close
+    (tie.spec
+    find-timecode-requires
+    find-off-measure-requires
+    system-events-requires
+    unmatched-tracks-requires
+    (λ c. search needs)
+    (λ c. search needs)
+    (λ c. search needs)
+    returns)
