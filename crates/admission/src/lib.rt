@@ -12,13 +12,13 @@ ghost use mathlib.Core.Bool.{true};
 ghost use mathlib.Core.Path.{_≡_};
 ghost use lib.ListN.{length};
 ghost use Rattle.rules.specs.Lists.{sum};
-ghost use Rattle.rules.specs.Piece.{piece, sizesAgree, wellFormed, largestSize};
-ghost use Rattle.rules.specs.Refusals.{firstNumber, pieceRefusals, eventRefusals, largestDelta};
+ghost use Rattle.rules.specs.Piece.{piece, sizesAgree, wellFormed};
+ghost use Rattle.rules.specs.Refusals.{firstNumber, pieceRefusals, eventRefusals, mostEvents, largestDelta};
 ghost use Rattle.admission.specs.Bad.{bad, FirstBad};
 
-// The sum of a piece's event counts.
+// The sum of event counts or deltas.
 pub fn total(counts: &[u32]) -> u64
-    requires { ⌜ length (now counts) ≤ largestSize ⌝ }
+    requires { ⌜ length (now counts) ≤ mostEvents ⌝ }
     ensures { λ r. ⌜ r ≡ sum (now (counts .entry)) ⌝ }
 {
     let mut n: u64 = 0;

@@ -1,14 +1,13 @@
 // The end of the piece, section 4's largest raw end of all parts, from one pass over each track that pairs nothing.
+use admission::total;
 use basics::MOST_PARTS;
 use basics::larger;
 use basics::size;
-use basics::wide;
 use track_events::cut;
 ghost use Prim.Native.Nat.{_+_, _*_, _≤_, _<_};
 ghost use mathlib.Core.Bool.{true};
 ghost use mathlib.Core.Path.{_≡_};
 ghost use Rattle.rules.specs.Piece.{piece, wellFormed};
-ghost use lib.ListN.{length};
 ghost use Rattle.rules.specs.Lists.{sum};
 ghost use Rattle.rules.specs.RawNotes.{mostParts, hasNotes};
 ghost use Rattle.rules.specs.Bars.{endOfPiece};
@@ -133,20 +132,6 @@ fn taken(s: Sofar, e: u64) -> Sofar
     }
 }
 
-// A track's last tick.
-fn last_tick(deltas: &[u32]) -> u64
-    requires { ⌜ length (now deltas) ≤ mostEvents ⌝ }
-    ensures { λ r. ⌜ r ≡ sum (now (deltas .entry)) ⌝ }
-{
-    let mut tick: u64 = 0;
-    let mut i = 0;
-    while i < deltas.len() {
-        tick += wide(deltas[i]);
-        i += 1;
-    }
-    tick
-}
-
 // Whether no note starts at a track's last tick, so that none ends after it.
 fn quiet_end(deltas: &[u32], words: &[u32]) -> bool
     requires { ⌜ Track (now deltas) (now words) ⌝ }
@@ -170,7 +155,7 @@ fn covered(deltas: &[u32], words: &[u32], end: u64) -> bool
     requires { ⌜ Track (now deltas) (now words) ⌝ }
     ensures { λ r. ⌜ (r ≡ true → trackEnd (eventsOf (now (deltas .entry)) (now (words .entry))) ≤ end) ⌝ }
 {
-    let last = last_tick(deltas);
+    let last = total(deltas);
     if last < end {
         return true;
     }

@@ -17,40 +17,46 @@ abbrev μ-loop : tie.MeasureT-loop
 
 returns : tie.Need-returns Inv-loop μ-loop
 returns c =
-    let start = c .before .before .before .before .before .before in
-    let here = c .before .before .before .loop in
-    let h : here .i < length (start .args .deltas .now) = omega (arith, start .pre .2) in
-    let k : here .i < length (start .args .words .now) = omega (arith, start .pre .0, h) in
+    let at-loop = c .before .before .before in
+    let start = at-loop .before .before .before in
+    let ds = start .args .deltas .now in
+    let ws = start .args .words .now in
+    let i = at-loop .loop .i in
+    let h : i < length ds = omega (arith, start .pre .2) in
+    let k : i < length ws = omega (arith, start .pre .0, h) in
     record {
       none = λ z. absurd (omega (arith, z));
-      some = λ z. sym (here .inv .2 ∙ bad-delta (start .args .deltas .now) (start .args .words .now) (here .i) h k (c .if1 .taken));
+      some = λ z. sym (at-loop .loop .inv .2 ∙ bad-delta ds ws i h k (c .if1 .taken));
     }
 
 returns-2 : tie.Need-returns-2 Inv-loop μ-loop
 returns-2 c =
-    let start = c .before .before .before .before .before .before .before .before .before in
-    let here = c .before .before .before .before .before .before .loop in
-    let h : here .i < length (start .args .deltas .now) = omega (arith, start .pre .2) in
-    let k : here .i < length (start .args .words .now) = omega (arith, start .pre .0, h) in
+    let at-if1 = c .before .before .before in
+    let at-loop = at-if1 .before .before .before in
+    let start = at-loop .before .before .before in
+    let ds = start .args .deltas .now in
+    let ws = start .args .words .now in
+    let i = at-loop .loop .i in
+    let h : i < length ds = omega (arith, start .pre .2) in
+    let k : i < length ws = omega (arith, start .pre .0, h) in
+    let ill = sym (c .before .well-formed .ensures) ∙ not-true _ (c .if2 .taken) in
     record {
       none = λ z. absurd (omega (arith, z));
-      some = λ z.
-          sym
-          (here .inv .2
-          ∙ bad-word (start .args .deltas .now) (start .args .words .now) (here .i) h k (c .before .before .before .if1 .left) (sym (c .before .well-formed .ensures) ∙ not-true _ (c .if2 .taken)));
+      some = λ z. sym (at-loop .loop .inv .2 ∙ bad-word ds ws i h k (at-if1 .if1 .left) ill);
     }
 
 loop-again : tie.Need-loop-again Inv-loop μ-loop
 loop-again c =
-    let start = c .before .before .before .before .before .before .before .before .before in
-    let here = c .before .before .before .before .before .before .loop in
-    let h : here .i < length (start .args .deltas .now) = omega (arith, start .pre .2) in
-    let k : here .i < length (start .args .words .now) = omega (arith, start .pre .0, h) in (
-      omega (arith, here .inv .0),
-      omega arith,
-      here .inv .2
-          ∙ bad-later (start .args .deltas .now) (start .args .words .now) (here .i) h k (c .before .before .before .if1 .left) (sym (c .before .well-formed .ensures) ∙ not-false _ (c .if2 .left)),
-    )
+    let at-if1 = c .before .before .before in
+    let at-loop = at-if1 .before .before .before in
+    let start = at-loop .before .before .before in
+    let ds = start .args .deltas .now in
+    let ws = start .args .words .now in
+    let i = at-loop .loop .i in
+    let h : i < length ds = omega (arith, start .pre .2) in
+    let k : i < length ws = omega (arith, start .pre .0, h) in
+    let well = sym (c .before .well-formed .ensures) ∙ not-false _ (c .if2 .left) in
+    (omega (arith, at-loop .loop .inv .0), omega arith, at-loop .loop .inv .2 ∙ bad-later ds ws i h k (at-if1 .if1 .left) well)
 
 returns-3 : tie.Need-returns-3 Inv-loop μ-loop
 returns-3 c =
@@ -69,7 +75,7 @@ bad-event-spec =
     (λ c. omega (arith, c .before .before .before .before .before .pre .2))
     returns
     (λ c. omega (arith, c .before .before .before .before .before .before .pre .2))
-    (λ c. omega (arith, c .before .before .before .before .before .before .before .pre .2, c .before .before .before .before .before .before .before .pre .0))
+    (λ c. let pre = c .before .before .before .before .before .before .before .pre in omega (arith, pre .2, pre .0))
     (λ c κs. omega arith)
     returns-2
     (λ c. omega arith)

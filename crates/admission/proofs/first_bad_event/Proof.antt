@@ -14,11 +14,20 @@ Inv-loop deltas words i₀ i = (i ≤ length deltas) × (bad deltas words i ≡ 
 abbrev μ-loop : tie.MeasureT-loop
 μ-loop deltas words i₀ i = length deltas - i
 
+bad-in-block-requires : tie.Need-bad-in-block-requires Inv-loop μ-loop
+bad-in-block-requires c κs =
+    let end = c .block-end .ensures in
+    (c .before .before .before .before .before .pre, omega (arith, end), omega (arith, end), omega (arith, end))
+
 returns : tie.Need-returns Inv-loop μ-loop
 returns c = c .before .bad-in-block .ensures .some (c .if1 .taken) ∙ c .before .before .before .before .loop .inv .1
 
 loop-again : tie.Need-loop-again Inv-loop μ-loop
-loop-again c = (omega (arith, c .before .before .block-end .ensures), sym (c .before .bad-in-block .ensures .none (c .if1 .left)) ∙ c .before .before .before .before .loop .inv .1)
+loop-again c =
+    let at-end = c .before .before in (
+      omega (arith, at-end .block-end .ensures),
+      sym (c .before .bad-in-block .ensures .none (c .if1 .left)) ∙ at-end .before .before .loop .inv .1,
+    )
 
 returns-2 : tie.Need-returns-2 Inv-loop μ-loop
 returns-2 c =
@@ -33,7 +42,7 @@ first-bad-event-spec =
     μ-loop
     (λ c. (omega arith, refl))
     (λ c κs. omega arith)
-    (λ c κs. (c .before .before .before .before .before .pre, omega (arith, c .block-end .ensures), omega (arith, c .block-end .ensures), omega (arith, c .block-end .ensures)))
+    bad-in-block-requires
     returns
     (λ c. omega (arith, c .before .before .block-end .ensures))
     loop-again

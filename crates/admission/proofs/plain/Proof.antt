@@ -10,12 +10,17 @@ use Rattle.admission.proofs.plain.Tie as tie
 
 returns-6 : tie.Need-returns-6
 returns-6 c =
-    let w = c .before .before .before .before .before .before .before .before .before .take-apart in (
+    let at-if4 = c .before .before in
+    let at-if3 = at-if4 .before .before in
+    let at-if2 = at-if3 .before .before in
+    let at-if1 = at-if2 .before .before in
+    let w = at-if1 .before .take-apart in
+    let kind = at-if2 .if2 .left in (
       omega arith,
       λ one. (
-        c .before .before .before .before .before .before .before .before .if1 .left,
-        note-word _ _ (w .ensures) (inr (omega (arith, c .before .before .before .before .before .before .if2 .left), omega (arith, c .before .before .before .before .before .before .if2 .left)))
-            ∙ rw (le-leb (w .result .a) 15 (c .before .before .before .before .if3 .left), le-leb (w .result .b) 127 (c .before .before .if4 .left), le-leb (w .result .c) 127 (c .if5 .left)),
+        at-if1 .if1 .left,
+        note-word _ _ (w .ensures) (inr (omega (arith, kind), omega (arith, kind)))
+            ∙ rw (le-leb (w .result .a) 15 (at-if3 .if3 .left), le-leb (w .result .b) 127 (at-if4 .if4 .left), le-leb (w .result .c) 127 (c .if5 .left)),
       ),
     )
 

@@ -10,26 +10,35 @@ use Rattle.admission.proofs.plain_events.Statement.{statement}
 use Rattle.admission.proofs.plain_events.Tie as tie
 
 abbrev Inv-loop : tie.InvT-loop
-Inv-loop deltas words from to n₀ i₀ n i = (from ≤ i) × (i ≤ to) × (n ≤ i - from) × (n ≡ i - from → bad deltas words from ≡ bad deltas words i)
+Inv-loop deltas words from to n₀ i₀ n i =
+    (from ≤ i) × (i ≤ to) × (n ≤ i - from) × (n ≡ i - from → bad deltas words from ≡ bad deltas words i)
 
 abbrev μ-loop : tie.MeasureT-loop
 μ-loop deltas words from to n₀ i₀ n i = to - i
 
 loop-again : tie.Need-loop-again Inv-loop μ-loop
 loop-again c =
-    let here = c .before .before .before .before .loop in
-    let start = c .before .before .before .before .before .before .before in
+    let at-loop = c .before .before .before .before in
+    let start = at-loop .before .before .before in
+    let here = at-loop .loop in
     let p = c .plain .ensures in
-    let h : here .i < length (start .args .deltas .now) = omega (arith, start .pre .2) in
-    let k : here .i < length (start .args .words .now) = omega (arith, start .pre .0, h) in (
+    let ds = start .args .deltas .now in
+    let ws = start .args .words .now in
+    let h : here .i < length ds = omega (arith, start .pre .2) in
+    let k : here .i < length ws = omega (arith, start .pre .0, h) in (
       omega (arith, here .inv .0),
       omega arith,
       omega (arith, here .inv .0, here .inv .2, p .0),
       λ e.
           let all : here .n ≡ here .i - start .args .from = omega (arith, e, p .0, here .inv .0, here .inv .2) in
           let good = p .1 (omega (arith, e, all, here .inv .0)) in
-          here .inv .3 all ∙ bad-later (start .args .deltas .now) (start .args .words .now) (here .i) h k (good .0) (good .1),
+          here .inv .3 all ∙ bad-later ds ws (here .i) h k (good .0) (good .1),
     )
+
+add-n : tie.Need-add-n Inv-loop μ-loop
+add-n c =
+    let at-loop = c .before .before .before .before in
+    omega (arith, c .plain .ensures .0, at-loop .loop .inv .2, at-loop .before .before .before .pre .3)
 
 returns : tie.Need-returns Inv-loop μ-loop
 returns c =
@@ -47,9 +56,9 @@ plain-events-spec =
     (λ c. omega (arith, c .before .before .before .before .pre .2))
     (λ c. omega (arith, c .before .before .before .before .before .pre .2))
     (λ c. omega (arith, c .before .before .before .before .before .pre .2))
-    (λ c. omega (arith, c .before .before .before .before .before .before .pre .2, c .before .before .before .before .before .before .pre .0))
+    (λ c. let pre = c .before .before .before .before .before .before .pre in omega (arith, pre .2, pre .0))
     (λ c κs. search needs)
-    (λ c. omega (arith, c .plain .ensures .0, c .before .before .before .before .loop .inv .2, c .before .before .before .before .before .before .before .pre .3))
+    add-n
     (λ c. omega arith)
     (λ c. omega arith)
     loop-again

@@ -14,6 +14,13 @@ Inv-loop counts n₀ i₀ n i = (i ≤ length counts) × (n + sum (drop i counts
 abbrev μ-loop : tie.MeasureT-loop
 μ-loop counts n₀ i₀ n i = length counts - i
 
+loop-again : tie.Need-loop-again Inv-loop μ-loop
+loop-again c =
+    let at-loop = c .before .before .before in
+    let counts = at-loop .before .before .args .counts .now in
+    let i = at-loop .loop .i in
+    omega (arith, c .wide .ensures, c .before .shared-slice-known2 .given i, sum-left counts i (omega arith))
+
 pub total-spec : {M : Type 1} → statement M
 total-spec =
     tie.close
@@ -27,5 +34,5 @@ total-spec =
     (λ c. omega (arith, c .wide .ensures, c .before .shared-slice-known2 .given (c .before .before .before .loop .i)))
     (λ c. omega arith)
     (λ c. omega arith)
-    (λ c. omega (arith, c .wide .ensures, c .before .shared-slice-known2 .given (c .before .before .before .loop .i), sum-left (c .before .before .before .before .before .args .counts .now) (c .before .before .before .loop .i) (omega arith)))
+    loop-again
     (λ c. omega (arith, sum-none (c .before .before .before .args .counts .now) (c .before .loop .i) (omega arith))))
