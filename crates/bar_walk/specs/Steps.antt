@@ -4,7 +4,7 @@ use mathlib.Core.Bool.{Bool, true, false, cond, not, _&&_}
 use mathlib.Core.Path.{_≡_}
 use lib.Dec.{eqb, ltb}
 use lib.IntN.{pos, natAbs, _+ℤ_}
-use Rattle.rules.specs.Piece.{isKind, wellFormed, tempoValue, upperFigure, lowerFigure, signedFifths, isMinor}
+use Rattle.rules.specs.Piece.{largestSize, isKind, wellFormed, tempoValue, upperFigure, lowerFigure, signedFifths, isMinor}
 use Rattle.rules.specs.Changes.{Meter, sameMeter, tempoOf, clampFifths}
 use Rattle.rules.specs.Bars.{barLength}
 use Rattle.bar_marks.specs.Marks.{packed}
@@ -133,7 +133,7 @@ markIn w =
 
 -- a walker whose bar has a length and an end
 pub record Sane (w : Walker) : Type 0 where
-  pub ticks : w .p ≤ 65535
+  pub ticks : w .p ≤ largestSize
   pub lower : 0 < w .lower
   pub start : w .start < 2 ^ 48
 

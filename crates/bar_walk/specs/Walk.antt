@@ -5,7 +5,7 @@ use mathlib.Core.Path.{_≡_}
 use lib.Dec.{leb}
 use lib.ListN.{length, take, drop}
 use Rattle.rules.specs.Lists.{keep, All, written}
-use Rattle.rules.specs.Piece.{Event}
+use Rattle.rules.specs.Piece.{Event, largestSize}
 use Rattle.rules.specs.Changes.{Meter, tempoChanges, meterChanges, keyChanges, firstMeter}
 use Rattle.rules.specs.Bars.{Bar, meterAt, tempoMark, keyMark, keyBits, startsOf, marksIn}
 use Rattle.track_events.specs.Track.{Track, eventsOf, tickAt}
@@ -69,7 +69,7 @@ pub record Settled (ds ws : List ℕ) (w r : Walker) : Type 0 where
 -- a walk over a track, with p ticks per quarter, up to an end tick
 pub record CanWalk (ds ws : List ℕ) (p end : ℕ) : Type 0 where
   pub track : Track ds ws
-  pub ticks : p ≤ 65535
+  pub ticks : p ≤ largestSize
   pub end-fits : end < 2 ^ 48
 
 -- outputs with room for the bars bs

@@ -7,7 +7,7 @@ use mathlib.Core.Path.{_≡_}
 use native.Mathlib.Omega.{arith}
 use lib.ListN.{length, take, drop, length-take, length-drop}
 use Rattle.rules.specs.Lists.{All, keep, largest}
-use Rattle.rules.specs.Piece.{Piece, Event, eventCounts, timed, cutTracks, tracks, wellFormed, division, timecode, ticksPerQuarter, isOn}
+use Rattle.rules.specs.Piece.{Piece, Event, largestSize, eventCounts, timed, cutTracks, tracks, wellFormed, division, timecode, ticksPerQuarter, isOn}
 use Rattle.rules.specs.RawNotes.{RawNote, rawNotes, hasNotes, mostParts, parts, mostNotes}
 use Rattle.rules.specs.Bars.{endOfPiece}
 use Rattle.rules.specs.Refusals.{largestDelta, mostEvents}
@@ -46,10 +46,10 @@ end-at-most x known =
     (All-map (λ n. n ≤ 2 ^ 47) (λ (n : RawNote). n .end) (λ n k. k .end) (flatMap rawNotes (parts x))
     (All-flatMap (InRange (2 ^ 47)) rawNotes (λ es k. notes-in-range (2 ^ 47) es (omega arith) k) (parts x) (parts-in x known)))
 
-pub quarter-fits : (x : Piece) → Admitted x → ticksPerQuarter x ≤ 65535
+pub quarter-fits : (x : Piece) → Admitted x → ticksPerQuarter x ≤ largestSize
 quarter-fits x known = go (timecode x)
   where
-    go : (t : Bool) → cond t 480 (division x) ≤ 65535
+    go : (t : Bool) → cond t 480 (division x) ≤ largestSize
     go true = omega arith
     go false = omega (arith, sizes-agree x (known .sizes) .division)
 
