@@ -26,7 +26,7 @@ fn write_automation(
         (automationOutcome p (eventsOf (now (deltas .entry)) (now (words .entry))) (length (now (ticks .entry))) (length (now (out .entry))))
         (now (ticks .entry)) (now (out .entry)) (automationAnswer r) (now (ticks .exit)) (now (out .exit)) ⌝ }
 {
-    let dropped = automation_events::recognized_auxiliary_channels(deltas, words);
+    let dropped = auxiliary_channels::recognized_auxiliary_channels(deltas, words);
     let counts = automation_events::count_automation(deltas, words, dropped);
     let all = counts.bends + counts.controllers + counts.programs + counts.pressures;
     if ticks.len() < all {
