@@ -1,6 +1,6 @@
 -- Groups 2 and 3: one event more of a pass over a track, and the first meter.
 use Prim.Native.Nat.{ℕ, suc, _+_, _%_, _≤_, _<_, _^_}
-use mathlib.Core.Bool.{Bool, true, false, not, _&&_}
+use mathlib.Core.Bool.{true, false, not, _&&_, and-false, and-true}
 use mathlib.Core.List.{List, [], _∷_, _++_, map, map-append, append-nil}
 use mathlib.Core.Logic.{⊎-elim}
 use mathlib.Core.Path.{_≡_, refl, sym, ap, _∙_}
@@ -20,10 +20,10 @@ use Rattle.laws.proofs.Loops.{keep-done}
 use Rattle.laws.proofs.Order.{by-bool, by-eq}
 use Rattle.track_events.specs.Track.{eventsOf, left, tickAt}
 use Rattle.track_events.proofs.Tracks.{left-cons, left-none, tick-next, track-sum}
-use Rattle.loss_diagnostics.specs.declared.Group.{Group}
-use Rattle.loss_diagnostics.specs.declared.Group.the-variants.{OffMeasure, System}
+use Rattle.event_diagnostics.specs.declared.Group.{Group}
+use Rattle.event_diagnostics.specs.declared.Group.the-variants.{OffMeasure, System}
 use Rattle.findings.specs.Found.{Found, FoundIn}
-use Rattle.loss_diagnostics.specs.Groups.{meterIn, offMeasure, codeOf, isFound, foundOf, foundOne, Searchable}
+use Rattle.event_diagnostics.specs.Groups.{meterIn, offMeasure, codeOf, isFound, foundOf, foundOne, Searchable}
 use Rattle.findings.proofs.Putting.{found-none, found-append, found-as}
 
 -- what is found in the events of two lists
@@ -121,10 +121,6 @@ pub code-small : (g : Group) → codeOf g ≤ 5
 code-small (OffMeasure l) = omega arith
 code-small System = omega arith
 
-and-false : (b : Bool) → b && false ≡ false
-and-false true = refl
-and-false false = refl
-
 module _ (l t w : ℕ) where
   pub off-other : (kindOf w ≡ 2 → ⊥) → (kindOf w ≡ 3 → ⊥) → offMeasure l t w ≡ false
   off-other h k = rw (ne-eqb (kindOf w) 2 h, ne-eqb (kindOf w) 3 k)
@@ -135,10 +131,6 @@ module _ (l t w : ℕ) where
   pub off-is : 2 ≤ kindOf w → kindOf w ≤ 3 → (l ≡ 0 → ⊥) → offMeasure l t w ≡ not (eqb (t % l) 0)
   off-is a b n = ⊎-elim (λ k. rw (eq-eqb (kindOf w) 2 k, ne-eqb l 0 n) later) (λ k. rw (ne-eqb (kindOf w) 2 k, eq-eqb (kindOf w) 3 (omega arith), ne-eqb l 0 n) later) (by-eq (kindOf w) 2)
     where
-      and-true : (b : Bool) → b && true ≡ b
-      and-true true = refl
-      and-true false = refl
-
       later : ltb 0 t && not (eqb (t % l) 0) && true ≡ not (eqb (t % l) 0)
       later =
           rw and-true

@@ -8,8 +8,8 @@ use Rattle.rules.specs.Piece.{Event, isKind}
 use Rattle.rules.specs.Changes.{Meter, commonTime, meterOf}
 use Rattle.rules.specs.Diagnostics.{Diagnostic, atEvent, isOffMeasure}
 use Rattle.track_events.specs.Track.{Track}
-use Rattle.loss_diagnostics.specs.declared.Group.{Group}
-use Rattle.loss_diagnostics.specs.declared.Group.the-variants.{OffMeasure, System}
+use Rattle.event_diagnostics.specs.declared.Group.{Group}
+use Rattle.event_diagnostics.specs.declared.Group.the-variants.{OffMeasure, System}
 
 -- the first meter of a track's words, else 4/4
 abbrev pub meterIn : List ℕ → Meter

@@ -5,8 +5,8 @@ use native.Mathlib.Nat.{mul-le-mul}
 use native.Mathlib.Omega.{arith}
 use borrow.Author.Needs.{needs}
 use Rattle.changes.proofs.ChangeLaws.{lower-positive}
-use Rattle.loss_diagnostics.proofs.length_of.Statement.{statement}
-use Rattle.loss_diagnostics.proofs.length_of.Tie as tie
+use Rattle.event_diagnostics.proofs.length_of.Statement.{statement}
+use Rattle.event_diagnostics.proofs.length_of.Tie as tie
 
 mul-result-2 : tie.Need-mul-result-2
 mul-result-2 c =

@@ -4,9 +4,9 @@ use native.Mathlib.Omega.{arith}
 use lib.ListN.{length, getD}
 use Rattle.rules.specs.Piece.{Event}
 use Rattle.findings.proofs.Putting.{places-kept, details-kept}
-use Rattle.loss_diagnostics.proofs.Searching.{Searching, searching-start, searching-more, searched, tick-below, one-at-most}
-use Rattle.loss_diagnostics.proofs.find_events.Statement.{statement}
-use Rattle.loss_diagnostics.proofs.find_events.Tie as tie
+use Rattle.event_diagnostics.proofs.Searching.{Searching, searching-start, searching-more, searched, tick-below, one-at-most}
+use Rattle.event_diagnostics.proofs.find_events.Statement.{statement}
+use Rattle.event_diagnostics.proofs.find_events.Tie as tie
 
 abbrev Inv-loop : tie.InvT-loop
 Inv-loop group track deltas words at places₀ details₀ next₀ tick₀ i₀ places details next tick i =

@@ -1,7 +1,7 @@
 -- `is_found` asks the test of its group.
 use borrow.Author.Needs.{needs}
-use Rattle.loss_diagnostics.proofs.is_found.Statement.{statement}
-use Rattle.loss_diagnostics.proofs.is_found.Tie as tie
+use Rattle.event_diagnostics.proofs.is_found.Statement.{statement}
+use Rattle.event_diagnostics.proofs.is_found.Tie as tie
 
 returns : tie.Need-returns
 returns c = rw (c .before .before .group .given .1) (c .is-off-measure .ensures)

@@ -2,9 +2,9 @@
 use mathlib.Core.Path.{sym}
 use native.Mathlib.Omega.{arith}
 use borrow.Author.Needs.{needs}
-use Rattle.loss_diagnostics.proofs.Searching.{off-other, off-none, off-is}
-use Rattle.loss_diagnostics.proofs.is_off_measure.Statement.{statement}
-use Rattle.loss_diagnostics.proofs.is_off_measure.Tie as tie
+use Rattle.event_diagnostics.proofs.Searching.{off-other, off-none, off-is}
+use Rattle.event_diagnostics.proofs.is_off_measure.Statement.{statement}
+use Rattle.event_diagnostics.proofs.is_off_measure.Tie as tie
 
 returns : tie.Need-returns
 returns c =

@@ -3,9 +3,9 @@ use mathlib.Core.Path.{sym, _∙_}
 use native.Mathlib.Omega.{arith}
 use borrow.Author.Needs.{needs}
 use Rattle.findings.proofs.Putting.{found-none}
-use Rattle.loss_diagnostics.proofs.Searching.{code-small, one-found, none-found}
-use Rattle.loss_diagnostics.proofs.put_event.Statement.{statement}
-use Rattle.loss_diagnostics.proofs.put_event.Tie as tie
+use Rattle.event_diagnostics.proofs.Searching.{code-small, one-found, none-found}
+use Rattle.event_diagnostics.proofs.put_event.Statement.{statement}
+use Rattle.event_diagnostics.proofs.put_event.Tie as tie
 
 put-requires : tie.Need-put-requires
 put-requires c κs =

@@ -5,10 +5,10 @@ use native.Mathlib.Omega.{arith}
 use lib.ListN.{length, drop}
 use Rattle.laws.proofs.Lists.{All-get}
 use Rattle.track_events.proofs.Tracks.{meter-bounds}
-use Rattle.loss_diagnostics.specs.Groups.{meterIn, meterLength}
-use Rattle.loss_diagnostics.proofs.Searching.{meter-here, meter-on, meter-none}
-use Rattle.loss_diagnostics.proofs.first_meter_length.Statement.{statement}
-use Rattle.loss_diagnostics.proofs.first_meter_length.Tie as tie
+use Rattle.event_diagnostics.specs.Groups.{meterIn, meterLength}
+use Rattle.event_diagnostics.proofs.Searching.{meter-here, meter-on, meter-none}
+use Rattle.event_diagnostics.proofs.first_meter_length.Statement.{statement}
+use Rattle.event_diagnostics.proofs.first_meter_length.Tie as tie
 
 abbrev Inv-loop : tie.InvT-loop
 Inv-loop p words i₀ i = (i ≤ length words) × (meterIn (drop i words) ≡ meterIn words)
