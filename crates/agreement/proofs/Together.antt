@@ -25,7 +25,7 @@ use Rattle.laws.proofs.VoiceLaws.{voices-four}
 use Rattle.items.proofs.Appending.{keys-length}
 use Rattle.staff.proofs.StaffSizes.{counts-length}
 use Rattle.agreement.specs.Together.{engraveRefusals, togetherCall, Together}
-use Rattle.agreement.proofs.Demand.{engraved-yes}
+use Rattle.playback.proofs.Demand.{engraved-yes}
 
 -- ---- refused or given
 
