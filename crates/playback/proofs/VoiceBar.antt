@@ -18,8 +18,8 @@ use Rattle.laws.specs.Lines.{Sound, Line}
 use Rattle.laws.specs.Ladder.{StaffPiece}
 use Rattle.laws.proofs.Order.{by-lt, dvd-min, dvd-max}
 use Rattle.laws.proofs.Lists.{All-imp, keep-none}
-use Rattle.agreement.specs.Performance.{heardTo}
-use Rattle.agreement.proofs.Run.{State, Run, done, run-append, quiet, heard, before, run-rests, run-pieces}
+use Rattle.playback.specs.Performance.{heardTo}
+use Rattle.playback.proofs.Run.{State, Run, done, run-append, quiet, heard, before, run-rests, run-pieces}
 
 abbrev pub tieOf : ℕ → List Chord → Option Tie
 tieOf t [] = none
@@ -31,24 +31,24 @@ stateAt t cs a = record { chords = reverseAux (heardTo t cs) a; tie = tieOf t (k
 
 -- ---- chords before, across and after a tick
 
-not-yet : (b e : ℕ) (c : Chord) → e ≤ c .start → soundsIn b e c ≡ false
+pub not-yet : (b e : ℕ) (c : Chord) → e ≤ c .start → soundsIn b e c ≡ false
 not-yet b e c o = rw (le-ltb (c .start) e o) (and-false (ltb b (c .end)))
 
-keep-sounding : (b e : ℕ) (c : Chord) (cs : List Chord) → b < c .end → c .start < e → keep (soundsIn b e) (c ∷ cs) ≡ c ∷ keep (soundsIn b e) cs
+pub keep-sounding : (b e : ℕ) (c : Chord) (cs : List Chord) → b < c .end → c .start < e → keep (soundsIn b e) (c ∷ cs) ≡ c ∷ keep (soundsIn b e) cs
 unfolding keep
 keep-sounding b e c cs h k = rw (lt-ltb b (c .end), lt-ltb (c .start) e)
 
-keep-past : (b e : ℕ) (c : Chord) (cs : List Chord) → c .end ≤ b → keep (soundsIn b e) (c ∷ cs) ≡ keep (soundsIn b e) cs
+pub keep-past : (b e : ℕ) (c : Chord) (cs : List Chord) → c .end ≤ b → keep (soundsIn b e) (c ∷ cs) ≡ keep (soundsIn b e) cs
 unfolding keep
 keep-past b e c cs h = rw (le-ltb b (c .end))
 
 module _ (u : ℕ) where
   -- a voice that begins at tick e or later
-  late : (e from : ℕ) (cs : List Chord) → Line u from cs → e ≤ from → All (λ (c : Chord). e ≤ c .start) cs
+  pub late : (e from : ℕ) (cs : List Chord) → Line u from cs → e ≤ from → All (λ (c : Chord). e ≤ c .start) cs
   late e from [] l o = tt
   late e from (c ∷ cs) l o = let long : c .start < c .end = l .1 .long in (omega arith, late e (c .end) cs (l .2) (omega arith))
 
-  keep-late : (e from : ℕ) (f : Chord → Bool) → ((c : Chord) → e ≤ c .start → f c ≡ false) → (cs : List Chord) → Line u from cs → e ≤ from
+  pub keep-late : (e from : ℕ) (f : Chord → Bool) → ((c : Chord) → e ≤ c .start → f c ≡ false) → (cs : List Chord) → Line u from cs → e ≤ from
       → keep f cs ≡ []
   keep-late e from f h cs l o = keep-none f cs (All-imp h cs (late e from cs l o))
 

@@ -18,7 +18,7 @@ use Rattle.rules.specs.Refusals.{unless}
 use Rattle.rules.specs.Calls.{partTrack, partNotes, partArrays, proofReadRefusals, proofReadCall}
 use Rattle.laws.specs.Admitted.{Passes}
 use Rattle.laws.specs.Lines.{Consecutive}
-use Rattle.agreement.specs.Performance.{heardTo}
+use Rattle.playback.specs.Performance.{heardTo}
 
 -- notes on a grid g, in bars that follow one another from tick 0, all multiples of the smallest written value
 pub record Even (p g : ℕ) (bs : List Bar) : Type 0 where

@@ -29,9 +29,9 @@ use Rattle.laws.proofs.Refusals.{admitted, ticks-per-quarter-positive, unless-a
 use Rattle.laws.proofs.Splits.{split-total, split-staff}
 use Rattle.laws.proofs.Verdict.{says-even}
 use Rattle.laws.proofs.VoiceLaws.{voices-four, voices-line, voices-found, voices-meant, voices-closed}
-use Rattle.agreement.specs.Demand.{Even, PlaysBack, EngravedRight, VerdictYes, PartPlaysBack, EngravedYes}
-use Rattle.agreement.proofs.Engraved.{Engraves, staff-engraves, staff-shape, staff-length}
-use Rattle.agreement.proofs.Heard.{heard-found, heard-meant, heard-ends}
+use Rattle.playback.specs.Demand.{Even, PlaysBack, EngravedRight, VerdictYes, PartPlaysBack, EngravedYes}
+use Rattle.playback.proofs.Engraved.{Engraves, staff-engraves, staff-shape, staff-length}
+use Rattle.playback.proofs.Heard.{heard-found, heard-meant, heard-ends}
 
 -- ---- notes on a grid
 

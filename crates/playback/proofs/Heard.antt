@@ -15,8 +15,8 @@ use Rattle.laws.specs.Lines.{Line, KeysNoted, EndsNoted, Closed}
 use Rattle.laws.proofs.Order.{by-lt}
 use Rattle.laws.proofs.Lists.{All-imp, All-map, All-keep, Some-imp, Some-map, Some-keep}
 use Rattle.laws.proofs.ChordLaws.{Has}
-use Rattle.agreement.specs.Performance.{endedBy, heardTo}
-use Rattle.agreement.proofs.VoiceBar.{heard-late}
+use Rattle.playback.specs.Performance.{endedBy, heardTo}
+use Rattle.playback.proofs.VoiceBar.{heard-late}
 
 -- ---- points 5 and 6
 

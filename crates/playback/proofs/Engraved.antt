@@ -20,10 +20,10 @@ use Rattle.laws.specs.Lines.{Line, Consecutive}
 use Rattle.laws.specs.Ladder.{StaffPiece}
 use Rattle.laws.proofs.Order.{by-bool}
 use Rattle.laws.proofs.Lists.{All-all, All-map, any-none, keep-none, by-four}
-use Rattle.agreement.specs.Performance.{heardTo}
-use Rattle.agreement.proofs.Run.{State, quiet, Walk, stop, walk-append, walk-plays, walk-ties}
-use Rattle.agreement.proofs.Run.{Run, done, item, run-walk, run-fills, run-values, run-clean}
-use Rattle.agreement.proofs.VoiceBar.{tieOf, stateAt, state-late, bar-run}
+use Rattle.playback.specs.Performance.{heardTo}
+use Rattle.playback.proofs.Run.{State, quiet, Walk, stop, walk-append, walk-plays, walk-ties}
+use Rattle.playback.proofs.Run.{Run, done, item, run-walk, run-fills, run-values, run-clean}
+use Rattle.playback.proofs.VoiceBar.{tieOf, stateAt, state-late, bar-run}
 
 -- ---- one voice in one bar
 
@@ -70,7 +70,7 @@ or-empty p b (i ∷ is) f = f
 
 -- ---- the staff's shape
 
-bar-length : (p : ℕ) (vs : List (List Chord)) (b : Bar) → length (voicesIn p vs b) ≡ length vs
+pub bar-length : (p : ℕ) (vs : List (List Chord)) (b : Bar) → length (voicesIn p vs b) ≡ length vs
 bar-length p [] b = refl
 bar-length p (v ∷ vs) b = ap suc (length-map vs (voiceIn p false b))
 
