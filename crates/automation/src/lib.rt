@@ -57,7 +57,7 @@ pub fn automation(
     if opened.number != 0 {
         return AutomationAnswer::Refused(opened.number);
     }
-    let p = piece::ticks_per_quarter(sizes);
+    let p = tracks::ticks_per_quarter(sizes);
     let from = opened.from;
     let to = opened.to;
     write_automation(p, cut(deltas, from, to), cut(words, from, to), ticks, out)

@@ -11,9 +11,9 @@ use Rattle.rules.specs.Diagnostics.{anyMeterLength, offMeasureFound}
 use Rattle.laws.specs.Admitted.{Admitted}
 use Rattle.track_events.specs.Track.{eventsOf, stretch}
 use Rattle.track_events.proofs.Tracks.{length-stretch}
-use Rattle.piece.specs.Spans.{IsSpan}
-use Rattle.piece.specs.declared.Span.{Span}
-use Rattle.piece.proofs.Cuts.{span-track}
+use Rattle.tracks.specs.Spans.{IsSpan}
+use Rattle.tracks.specs.declared.Span.{Span}
+use Rattle.tracks.proofs.Cuts.{span-track}
 use Rattle.event_diagnostics.specs.declared.Group.the-variants.{OffMeasure}
 use Rattle.findings.specs.Found.{FoundIn}
 use Rattle.event_diagnostics.specs.Groups.{meterIn, meterLength, foundOf, Searchable}

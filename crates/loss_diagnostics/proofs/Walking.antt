@@ -12,8 +12,8 @@ use Rattle.laws.specs.Admitted.{Admitted}
 use Rattle.laws.proofs.Refusals.{sizes-agree}
 use Rattle.track_events.specs.Track.{Track, eventsOf, stretch}
 use Rattle.track_events.proofs.Tracks.{track-part, length-stretch}
-use Rattle.piece.proofs.Cuts.{Cut, later, cut-start, cut-fits, cut-next, later-cons, later-none, whole-track}
-use Rattle.piece.proofs.Ranges.{ons, most-each}
+use Rattle.tracks.proofs.Cuts.{Cut, later, cut-start, cut-fits, cut-next, later-cons, later-none, whole-track}
+use Rattle.tracks.proofs.Ranges.{ons, most-each}
 use Rattle.pairing.specs.Queues.{Grid, Empty}
 use Rattle.findings.specs.Found.{Found, FoundIn}
 use Rattle.event_diagnostics.specs.Groups.{Searchable}

@@ -114,8 +114,8 @@ fn find_off_measure(
     ensures { λ r. ⌜ FoundIn (offMeasureFound (piece (now (sizes .entry)) (now (deltas .entry)) (now (words .entry)))) (length (now (deltas .entry))) at
         (now (places .entry)) (now (details .entry)) r (now (places .exit)) (now (details .exit)) ⌝ }
 {
-    let p = piece::ticks_per_quarter(sizes);
-    let track = piece::first_track(sizes);
+    let p = tracks::ticks_per_quarter(sizes);
+    let track = tracks::first_track(sizes);
     let from = track.from;
     let to = track.to;
     let deltas = cut(deltas, from, to);

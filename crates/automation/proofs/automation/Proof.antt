@@ -2,7 +2,7 @@
 use borrow.Author.Needs.{needs}
 use native.Mathlib.Omega.{arith}
 use Rattle.laws.proofs.Refusals.{ticks-per-quarter-positive}
-use Rattle.piece.proofs.Ranges.{quarter-fits}
+use Rattle.tracks.proofs.Ranges.{quarter-fits}
 use Rattle.opening.proofs.Opening.{cut-deltas, cut-words, part-admitted, own-track}
 use Rattle.automation.proofs.AutomationOutcomes.{part-refused, part-answered}
 use Rattle.automation.proofs.automation.Statement.{statement}

@@ -2,9 +2,9 @@
 use native.Mathlib.Omega.{arith}
 use borrow.Author.Needs.{needs}
 use Rattle.rules.specs.Piece.{piece, firstTrack}
-use Rattle.piece.specs.Spans.{IsSpan}
-use Rattle.piece.proofs.Cuts.{span-track}
-use Rattle.piece.proofs.Ranges.{quarter-fits}
+use Rattle.tracks.specs.Spans.{IsSpan}
+use Rattle.tracks.proofs.Cuts.{span-track}
+use Rattle.tracks.proofs.Ranges.{quarter-fits}
 use Rattle.loss_diagnostics.proofs.FirstTrack.{first-searchable, off-found}
 use Rattle.loss_diagnostics.proofs.find_off_measure.Statement.{statement}
 use Rattle.loss_diagnostics.proofs.find_off_measure.Tie as tie
