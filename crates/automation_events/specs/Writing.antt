@@ -10,7 +10,8 @@ use Rattle.rules.specs.Automation.{automationTick, automationLists}
 use Rattle.track_events.specs.Track.{Track, eventsOf}
 use Rattle.automation_events.specs.declared.Choice.{Choice}
 use Rattle.automation_events.specs.declared.Kind.{Kind}
-use Rattle.automation_events.specs.Kinds.{Drops, wanted}
+use Rattle.auxiliary_channels.specs.Markers.{Drops}
+use Rattle.automation_events.specs.Kinds.{wanted}
 
 abbrev pub choiceOf : List Bool → ℕ → Kind → Choice
 choiceOf dropped p k = record { kind = k; dropped = dropped; p = p }

@@ -19,7 +19,7 @@ pub fn head(sizes: &[u32], deltas: &[u32], words: &[u32]) -> HeadAnswer
     if opened.number != 0 {
         return HeadAnswer::Refused(opened.number);
     }
-    let track = piece::first_track(sizes);
+    let track = tracks::first_track(sizes);
     let first_deltas = track_events::cut(deltas, track.from, track.to);
     let first_words = track_events::cut(words, track.from, track.to);
     HeadAnswer::Given(changes::read_head(first_deltas, first_words))

@@ -12,10 +12,11 @@ use Rattle.laws.specs.Admitted.{Admitted}
 use Rattle.laws.proofs.Refusals.{sizes-agree}
 use Rattle.track_events.specs.Track.{Track, eventsOf, stretch}
 use Rattle.track_events.proofs.Tracks.{track-part, length-stretch}
-use Rattle.piece.proofs.Cuts.{Cut, later, cut-start, cut-fits, cut-next, later-cons, later-none, whole-track}
-use Rattle.piece.proofs.Ranges.{ons, most-each}
+use Rattle.tracks.proofs.Cuts.{Cut, later, cut-start, cut-fits, cut-next, later-cons, later-none, whole-track}
+use Rattle.tracks.proofs.Ranges.{ons, most-each}
 use Rattle.pairing.specs.Queues.{Grid, Empty}
 use Rattle.findings.specs.Found.{Found, FoundIn}
+use Rattle.event_diagnostics.specs.Groups.{Searchable}
 use Rattle.unmatched.specs.Stages.{Fresh, Emptied}
 use Rattle.loss_diagnostics.specs.Pieces.{CanFind}
 use Rattle.findings.proofs.Putting.{found-none, found-append, found-as}
@@ -36,8 +37,8 @@ walking-start {s = s} {ds = ds} {ws = ws} {at = at} {p = p} {d = d} h =
 
 -- n events from `from` on are within the arrays
 pub record Ahead (from n i : ℕ) (ds ws : List ℕ) : Type 0 where
-  pub deltas : from + n ≤ length ds
-  pub words : from + n ≤ length ws
+  pub deltas : (from ≤ from + n) × (from + n ≤ length ds)
+  pub words : (from ≤ from + n) × (from + n ≤ length ws)
   pub number : 2 ≤ i
 
 module _ {f : ℕ → List Event → List Diagnostic} {s ds ws : List ℕ} {at : ℕ} {p₀ d₀ : List ℕ} {i from next : ℕ} {p d : List ℕ}
@@ -57,21 +58,33 @@ module _ {f : ℕ → List Event → List Diagnostic} {s ds ws : List ℕ} {at :
     abbrev pub next-track : List Event
     next-track = eventsOf (stretch from to ds) (stretch from to ws)
 
-    pub walking-fits : to ≤ length ds
+    walking-fits : to ≤ length ds
     walking-fits = cut-fits (v .cut) more
 
     pub walking-ahead : {n : ℕ} → n ≡ getD s i 0 → Ahead from n i ds ws
-    walking-ahead e = record { deltas = omega (arith, walking-fits); words = omega (arith, walking-fits, v .cut .same); number = v .behind }
+    walking-ahead e =
+        record {
+          deltas = (omega arith, omega (arith, walking-fits));
+          words = (omega arith, omega (arith, walking-fits, v .cut .same));
+          number = v .behind;
+        }
 
-    pub walking-track : Track (stretch from to ds) (stretch from to ws)
+    walking-track : Track (stretch from to ds) (stretch from to ws)
     walking-track = track-part (whole-track (piece s ds ws) known) from to (omega arith) walking-fits
 
-    pub walking-long : length (stretch from to ds) ≡ getD s i 0
+    walking-long : length (stretch from to ds) ≡ getD s i 0
     walking-long = length-stretch from to ds (omega arith) walking-fits ∙ omega arith
 
     -- tracks are at most 65,535
-    pub walking-number : i - 2 ≤ 65535
+    walking-number : i - 2 ≤ 65535
     walking-number = let a = sizes-agree (piece s ds ws) (known .sizes) in omega (arith, a .sizes, a .tracks)
+
+    -- the next diagnostic has its place below 2^32
+    walking-room : at + length ds < 2 ^ 32 → next + length (stretch from to ds) < 2 ^ 32
+    walking-room h = omega (arith, v .few, walking-long, walking-fits)
+
+    pub walking-searchable : at + length ds < 2 ^ 32 → Searchable (stretch from to ds) (stretch from to ws) (i - 2) next
+    walking-searchable h = record { events = walking-track; numbered = walking-number; room = walking-room h }
 
     pub walking-next : {r : ℕ} {p₁ d₁ : List ℕ} → FoundIn (f (i - 2) next-track) (length (stretch from to ds)) next p d r p₁ d₁
         → Walking f s ds ws at p₀ d₀ (i + 1) to r p₁ d₁
@@ -120,7 +133,7 @@ module _ {s ds ws : List ℕ} {at n : ℕ} {w₀ p₀ d₀ : List ℕ} {h t : Li
         area = omega (arith, can .area, v .kept);
         ons = each .0;
         numbered = walking-number (can .admitted) (v .walk) more;
-        room = omega (arith, small, v .walk .few, walking-long (can .admitted) (v .walk) more, walking-fits (can .admitted) (v .walk) more);
+        room = walking-room (can .admitted) (v .walk) more small;
       }
 
   pub tracking-next : {h′ t′ : List (List ℕ)} {r : ℕ} {w′ p₁ d₁ : List ℕ} → length w′ ≡ length w → Emptied h′ t′

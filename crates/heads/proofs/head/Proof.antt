@@ -4,8 +4,8 @@ use mathlib.Core.Path.{sym, ap, _∙_}
 use Rattle.rules.specs.Piece.{piece, firstTrack}
 use Rattle.rules.specs.Refusals.{given, noteRefusals}
 use Rattle.laws.proofs.Refusals.{passes-given}
-use Rattle.piece.specs.Spans.{IsSpan}
-use Rattle.piece.proofs.Cuts.{span-track}
+use Rattle.tracks.specs.Spans.{IsSpan}
+use Rattle.tracks.proofs.Cuts.{span-track}
 use Rattle.opening.proofs.Opening.{refuses-last, notes-pass, notes-admitted, cut-deltas, cut-words}
 use Rattle.heads.proofs.Heads.{head-given}
 use Rattle.heads.proofs.head.Statement.{statement}
