@@ -8,9 +8,9 @@ use Rattle.rules.specs.Staff.{rests, chordIn}
 use Rattle.chords.specs.Columns.{chordOf}
 use Rattle.items.specs.Writing.{quarter}
 use Rattle.items.proofs.Appending.{going-start, going-room, going-more, going-end, going-left}
-use Rattle.staff.specs.Voices.{gapAndChord}
-use Rattle.staff.proofs.push_gap_and_chord.Statement.{statement}
-use Rattle.staff.proofs.push_gap_and_chord.Tie as tie
+use Rattle.bar_voice.specs.Voices.{gapAndChord}
+use Rattle.bar_voice.proofs.push_gap_and_chord.Statement.{statement}
+use Rattle.bar_voice.proofs.push_gap_and_chord.Tie as tie
 
 module _ (c : tie.Start) where
   abbrev gap : List Item

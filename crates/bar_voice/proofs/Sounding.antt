@@ -19,7 +19,7 @@ use Rattle.laws.specs.Lines.{Line}
 use Rattle.laws.proofs.Order.{by-lt}
 use Rattle.laws.proofs.Lists.{All-imp, any-kept, keep-none, keep-append}
 use Rattle.items.specs.Writing.{Sounding}
-use Rattle.staff.specs.Voices.{noChord, chordOf, Past, Skipped, gapAndChord}
+use Rattle.bar_voice.specs.Voices.{noChord, chordOf, Past, Skipped, gapAndChord}
 
 -- ---- chords before, in and after a bar
 

@@ -2,9 +2,9 @@
 use mathlib.Core.Path.{sym, ap, _∙_}
 use borrow.Author.Tests.{lt-ltb, le-ltb}
 use Rattle.rules.specs.Voices.{Chord}
-use Rattle.staff.proofs.VoiceWalk.{voice-get, can-read}
-use Rattle.staff.proofs.sounds.Statement.{statement}
-use Rattle.staff.proofs.sounds.Tie as tie
+use Rattle.bar_voice.proofs.VoiceWalk.{voice-get, can-read}
+use Rattle.bar_voice.proofs.sounds.Statement.{statement}
+use Rattle.bar_voice.proofs.sounds.Tie as tie
 
 returns : tie.Need-returns
 returns c = rw (le-ltb _ _ (c .if1 .taken))

@@ -10,8 +10,8 @@ use Rattle.rules.specs.Voices.{Chord}
 use Rattle.laws.specs.Lines.{Line}
 use Rattle.items.specs.Writing.{Room, Items}
 use Rattle.items.proofs.Appending.{Going, going-start, going-heads, going-keys, going-room, going-more, going-end, going-left}
-use Rattle.staff.specs.Voices.{chordOf, Skipped, filledFrom, gapAndChord}
-use Rattle.staff.proofs.Sounding.{keep-past, Ahead, coming, ahead-start, ahead-more, ahead-next}
+use Rattle.bar_voice.specs.Voices.{chordOf, Skipped, filledFrom, gapAndChord}
+use Rattle.bar_voice.proofs.Sounding.{keep-past, Ahead, coming, ahead-start, ahead-more, ahead-next}
 
 -- the bar goes from b to e; the items up to tick t are written, and chord j is the next
 pub record Midbar (w : Bool) (p b e : ℕ) (cs : List Chord) (from : ℕ) (heads₀ keys₀ heads₁ keys₁ : List ℕ) (at t j : ℕ) : Type 0 where

@@ -9,12 +9,12 @@ use Rattle.rules.specs.Staff.{rests}
 use Rattle.rules.specs.Voices.{Chord}
 use Rattle.chords.specs.Columns as columns
 use Rattle.items.specs.Writing.{quarter}
-use Rattle.staff.specs.Voices.{voiceOf, chordOf}
-use Rattle.staff.proofs.VoiceWalk.{voice-length, voice-get, can-read}
-use Rattle.staff.proofs.Sounding.{coming, ahead-none, ahead-late, ahead-gap, ahead-sounds}
-use Rattle.staff.proofs.InBar.{Midbar, mid-start, mid-heads, mid-keys, mid-rest, mid-end, mid-room, mid-more}
-use Rattle.staff.proofs.push_filled.Statement.{statement}
-use Rattle.staff.proofs.push_filled.Tie as tie
+use Rattle.bar_voice.specs.Voices.{voiceOf, chordOf}
+use Rattle.bar_voice.proofs.VoiceWalk.{voice-length, voice-get, can-read}
+use Rattle.bar_voice.proofs.Sounding.{coming, ahead-none, ahead-late, ahead-gap, ahead-sounds}
+use Rattle.bar_voice.proofs.InBar.{Midbar, mid-start, mid-heads, mid-keys, mid-rest, mid-end, mid-room, mid-more}
+use Rattle.bar_voice.proofs.push_filled.Statement.{statement}
+use Rattle.bar_voice.proofs.push_filled.Tie as tie
 
 abbrev Inv-loop : tie.InvT-loop
 Inv-loop write values work n v len next bar heads₀ keys₀ from at₀ tick₀ j₀ heads keys at tick j =

@@ -5,11 +5,11 @@ use borrow.Author.Tests.{eq-eqb, ne-eqb}
 use Rattle.rules.specs.Lists.{any}
 use Rattle.rules.specs.Staff.{soundsIn}
 use Rattle.items.proofs.Appending.{items-none}
-use Rattle.staff.specs.Voices.{voiceOf}
-use Rattle.staff.proofs.VoiceWalk.{voice-length}
-use Rattle.staff.proofs.Sounding.{sounding-any}
-use Rattle.staff.proofs.push_voice.Statement.{statement}
-use Rattle.staff.proofs.push_voice.Tie as tie
+use Rattle.bar_voice.specs.Voices.{voiceOf}
+use Rattle.bar_voice.proofs.VoiceWalk.{voice-length}
+use Rattle.bar_voice.proofs.Sounding.{sounding-any}
+use Rattle.bar_voice.proofs.push_voice.Statement.{statement}
+use Rattle.bar_voice.proofs.push_voice.Tie as tie
 
 push-filled-requires : tie.Need-push-filled-requires
 push-filled-requires c κs =

@@ -15,8 +15,8 @@ use Rattle.laws.specs.Lines.{Line}
 use Rattle.laws.proofs.Order.{by-bool, by-lt}
 use Rattle.items.proofs.Pieces.{pieces-length}
 use Rattle.items.proofs.Ties.{rests-length}
-use Rattle.staff.specs.Voices.{Skipped, voiceFrom, gapAndChord}
-use Rattle.staff.proofs.Sounding.{keep-past, Ahead, coming, ahead-start, ahead-none, ahead-late, ahead-gap, ahead-sounds, ahead-more, ahead-next}
+use Rattle.bar_voice.specs.Voices.{Skipped, voiceFrom, gapAndChord}
+use Rattle.bar_voice.proofs.Sounding.{keep-past, Ahead, coming, ahead-start, ahead-none, ahead-late, ahead-gap, ahead-sounds, ahead-more, ahead-next}
 
 split-few : (p n t : ℕ) → length (splitIn p n t .pieces) ≤ n
 unfolding splitIn

@@ -3,10 +3,10 @@ use Prim.Native.Nat.{_-_}
 use mathlib.Core.Path.{_≡_, sym, ap, _∙_}
 use native.Mathlib.Omega.{arith}
 use Rattle.rules.specs.Voices.{Chord}
-use Rattle.staff.specs.Voices.{voiceOf, chordOf, Past}
-use Rattle.staff.proofs.VoiceWalk.{voice-length, voice-get, can-read, past-more}
-use Rattle.staff.proofs.skip_past.Statement.{statement}
-use Rattle.staff.proofs.skip_past.Tie as tie
+use Rattle.bar_voice.specs.Voices.{voiceOf, chordOf, Past}
+use Rattle.bar_voice.proofs.VoiceWalk.{voice-length, voice-get, can-read, past-more}
+use Rattle.bar_voice.proofs.skip_past.Statement.{statement}
+use Rattle.bar_voice.proofs.skip_past.Tie as tie
 
 abbrev Inv-loop : tie.InvT-loop
 Inv-loop work n v len next tick j₀ j = Past tick (voiceOf n work v len) j

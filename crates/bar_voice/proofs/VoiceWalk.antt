@@ -11,7 +11,7 @@ use Rattle.laws.proofs.Lists.{All-append, All-imp}
 use Rattle.chords.specs.Columns.{chordAt}
 use Rattle.laws.proofs.Places.{upTo-length, upTo-get}
 use Rattle.voices.specs.Placing.{numberAt}
-use Rattle.staff.specs.Voices.{voiceOf, VoiceHeld, noChord, chordOf, Past}
+use Rattle.bar_voice.specs.Voices.{voiceOf, VoiceHeld, noChord, chordOf, Past}
 
 -- ---- in the work area
 

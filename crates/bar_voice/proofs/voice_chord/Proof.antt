@@ -2,8 +2,8 @@
 use native.Mathlib.Omega.{arith}
 use borrow.Author.Needs.{needs}
 use Rattle.voices.proofs.Cells.{column-end}
-use Rattle.staff.proofs.voice_chord.Statement.{statement}
-use Rattle.staff.proofs.voice_chord.Tie as tie
+use Rattle.bar_voice.proofs.voice_chord.Statement.{statement}
+use Rattle.bar_voice.proofs.voice_chord.Tie as tie
 
 pub voice-chord-spec : {M : Type 1} → statement M
 voice-chord-spec =
