@@ -1,29 +1,25 @@
--- The voices that stand in the work area are the part's, and the table of values is the division's.
-use Prim.Native.Nat.{ℕ, _-_, _*_, _/_, _%_, _<_, _≤_, _^_, max}
+-- The voices that stand in the work area are the notes', and a grid is in range.
+use Prim.Native.Nat.{ℕ, _*_, _/_, _<_, _≤_, max}
 use mathlib.Core.Bool.{Bool, true, false, cond}
-use mathlib.Core.List.{List, [], flatMap}
+use mathlib.Core.List.{List, []}
 use mathlib.Core.Path.{_≡_, sym}
 use native.Mathlib.Nat.{one-dvd}
 use native.Mathlib.Omega.{arith}
-use borrow.Author.Tests.{eq-eqb}
 use lib.Dec.{ltb}
 use lib.ListN.{length, getD}
 use Rattle.rules.specs.Grid.{grid, offCount}
 use Rattle.rules.specs.RawNotes.{RawNote}
-use Rattle.rules.specs.Values.{isWhole}
 use Rattle.rules.specs.Voices.{voices}
 use Rattle.laws.specs.Lines.{Line}
 use Rattle.laws.proofs.Lists.{All-get}
 use Rattle.laws.proofs.VoiceLaws.{voices-four, voices-line}
+use Rattle.laws.proofs.Places.{upTo-is}
 use Rattle.chords.specs.Columns.{chordAt}
-use Rattle.laws.proofs.Places.{upTo-is, upTo-length}
-use Rattle.values.specs.Table.{tableOf}
 use Rattle.voices.specs.Placing.{numberAt}
 use Rattle.voices.specs.VoicesIn.{VoicesIn}
 use Rattle.voices.specs.declared.Voices.{Voices}
 use Rattle.voices.proofs.Reading.{number-small, chord-read}
-use Rattle.items.specs.Writing.{quarter, IsTable}
-use Rattle.staff.specs.Voices.{voiceOf, noChord}
+use Rattle.bar_voice.specs.Voices.{voiceOf, noChord}
 use Rattle.staff.specs.Bars.{voicesOf, VoicesHeld}
 
 module _ (g : ℕ) (ns : List RawNote) {n : ℕ} {r : Voices} {w : List ℕ} (given : VoicesIn (voices g ns) n r w) (area : 16 * n ≤ length w) where
@@ -59,17 +55,3 @@ module _ (p : ℕ) (ns : List RawNote) where
   pub grid-small : p ≤ 65535 → grid p ns ≤ 65535
   unfolding grid
   grid-small = grid-cases p (ltb (length ns) (offCount p ns * 10)) .1
-
-pub four-voices : (n : ℕ) (w lens : List ℕ) → length (voicesOf n w lens) ≡ 4
-four-voices n w lens = upTo-length (λ v. voiceOf n w v (getD lens v 0)) 4
-
--- ---- the table
-
-pub quarter-is : (p : ℕ) → quarter (tableOf p) ≡ p
-unfolding tableOf flatMap
-quarter-is p =
-    let whole : isWhole p 4 0 ≡ true = eq-eqb (16 * p * (2 ^ 1 - 1) % 2 ^ 4) 0 (omega arith) in
-    rw whole (omega arith)
-
-pub table-is : (p : ℕ) → 0 < p → IsTable (tableOf p)
-table-is p h = record { some-ticks = rw (quarter-is p) h; is = rw (quarter-is p) }
