@@ -1,6 +1,6 @@
 // The call on a part's automation.
 ghost use Rattle.rules.specs.Refusals.{asItIs};
-ghost use Rattle.rules.specs.Piece.{piece};
+ghost use Rattle.rules.specs.Piece.{piece, largestSize};
 ghost use Rattle.rules.specs.Calls.{automationCall, AutomationCalled};
 ghost use Prim.Native.Nat.{_≤_, _<_};
 ghost use Rattle.track_events.specs.Track.{Track, eventsOf};
@@ -22,7 +22,7 @@ fn write_automation(
     ticks: &mut [u64],
     out: &mut [u32],
 ) -> AutomationAnswer
-    requires { ⌜ Track (now deltas) (now words) × (0 < p) × (p ≤ 65535) ⌝ }
+    requires { ⌜ Track (now deltas) (now words) × (0 < p) × (p ≤ largestSize) ⌝ }
     ensures { λ r. ⌜ AutomationCalled asItIs
         (automationOutcome p (eventsOf (now (deltas .entry)) (now (words .entry))) (length (now (ticks .entry))) (length (now (out .entry))))
         (now (ticks .entry)) (now (out .entry)) (automationAnswer r) (now (ticks .exit)) (now (out .exit)) ⌝ }

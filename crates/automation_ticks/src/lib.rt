@@ -2,6 +2,7 @@
 ghost use Prim.Native.Nat.{_+_, _≤_, _<_, _^_};
 ghost use mathlib.Core.Path.{_≡_};
 ghost use lib.Dec.{eqb};
+ghost use Rattle.rules.specs.Piece.{largestSize};
 ghost use Rattle.rules.specs.Automation.{automationTick};
 
 // A tick of the piece, as its notes have it.
@@ -27,7 +28,7 @@ impl SourceTick {
 
     // The only way from a source tick to an automation tick.
     pub fn normalize_tick(self, p: u64) -> AutomationTick
-        requires { ⌜ (self .0 < 2 ^ 48) × (0 < p) × (p ≤ 65535) ⌝ }
+        requires { ⌜ (self .0 < 2 ^ 48) × (0 < p) × (p ≤ largestSize) ⌝ }
         ensures { λ r. ⌜ r .0 ≡ automationTick p (self .0) ⌝ }
     {
         AutomationTick((self.0 * 480 + p / 2) / p)

@@ -32,7 +32,9 @@ module _ {ds ws : List ℕ} {w : Walker} (bar : AtBar ds ws w) where
 
   -- the mark is the bar's
   pub mark-is : markIn w
-      ≡ markOf (meterIn w) (not (sameMeter (meterBefore w) (meterIn w))) (tempoMark (tempoChanges (eventsOf ds ws)) (w .start)) (keyMark (keyChanges (eventsOf ds ws)) (w .start))
+      ≡ markOf (meterIn w) (not (sameMeter (meterBefore w) (meterIn w)))
+      (tempoMark (tempoChanges (eventsOf ds ws)) (w .start))
+      (keyMark (keyChanges (eventsOf ds ws)) (w .start))
   mark-is = rw (← bar .tempo, ← bar .key)
 
 ahead-same : (w : Walker) {r : Walker} → SameBar (nextOf w) r → (ds ws : List ℕ) (end n : ℕ)

@@ -13,7 +13,8 @@ use lib.ListN.{length, getD, take}
 use lib.Seq.{take-nil}
 use Rattle.rules.specs.Lists.{keep, sortBy, largest, isEmpty, All}
 use Rattle.rules.specs.Piece.{Event, piece}
-use Rattle.rules.specs.RawNotes.{NoteEvent, noteEvents, RawNote, rawNote, Pairing, sameKey, takeOff, pairOne, noPairs, byChannel, byStart, rawNotesOf, rawNotes, lastTick, hasNotes, mostParts}
+use Rattle.rules.specs.RawNotes.{NoteEvent, noteEvents, RawNote, rawNote, Pairing, sameKey, takeOff, pairOne, noPairs}
+use Rattle.rules.specs.RawNotes.{byChannel, byStart, rawNotesOf, rawNotes, lastTick, hasNotes, mostParts}
 use Rattle.rules.specs.Bars.{endOfPiece}
 use Rattle.laws.specs.Admitted.{Admitted}
 use Rattle.laws.proofs.Order.{by-bool}
@@ -52,7 +53,8 @@ notes-end es =
     let p = foldl pairOne noPairs (noteEvents es) in
     All-sort byStart Ends _
     (All-append Ends (p .closed) _
-    (foldl-keeps pairOne (λ q. All Ends (q .closed)) (λ n. Unit {0}) (λ q n u h. one-ends q n h) (noteEvents es) noPairs (All-all (λ n. tt) (noteEvents es)) tt)
+    (foldl-keeps pairOne (λ q. All Ends (q .closed)) (λ n. Unit {0}) (λ q n u h. one-ends q n h)
+    (noteEvents es) noPairs (All-all (λ n. tt) (noteEvents es)) tt)
     (pending-end (lastTick es) (sortBy byChannel (p .pending))))
 
 some-end : (ns : List RawNote) → All Ends ns → ltb 0 (largest (map (λ (n : RawNote). n .end) ns)) ≡ not (isEmpty ns)

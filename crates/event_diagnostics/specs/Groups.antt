@@ -4,7 +4,7 @@ use mathlib.Core.Bool.{Bool}
 use mathlib.Core.List.{List, [], _∷_, map}
 use lib.ListN.{length}
 use Rattle.rules.specs.Lists.{keep, firstOr}
-use Rattle.rules.specs.Piece.{Event, isKind}
+use Rattle.rules.specs.Piece.{Event, isKind, largestSize}
 use Rattle.rules.specs.Changes.{Meter, commonTime, meterOf}
 use Rattle.rules.specs.Diagnostics.{Diagnostic, atEvent, isOffMeasure}
 use Rattle.track_events.specs.Track.{Track}
@@ -38,5 +38,5 @@ foundOne g track e = foundOf g track (e ∷ [])
 
 pub record Searchable (ds ws : List ℕ) (track at : ℕ) : Type 0 where
   pub events : Track ds ws
-  pub numbered : track ≤ 65535
+  pub numbered : track ≤ largestSize
   pub room : at + length ds < 2 ^ 32

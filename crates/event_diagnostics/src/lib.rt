@@ -4,7 +4,7 @@ ghost use mathlib.Core.Bool.{true};
 ghost use mathlib.Core.Path.{_≡_};
 ghost use lib.ListN.{length};
 ghost use Rattle.rules.specs.Lists.{All};
-ghost use Rattle.rules.specs.Piece.{byteB, upperFigure, lowerFigure, wellFormed};
+ghost use Rattle.rules.specs.Piece.{largestSize, byteB, upperFigure, lowerFigure, wellFormed};
 ghost use Rattle.track_events.specs.Track.{eventsOf};
 ghost use Rattle.findings.specs.Found.{Found, FoundIn};
 ghost use Rattle.event_diagnostics.specs.Groups.{meterIn, meterLength, offMeasure, codeOf, isFound, foundOne, foundOf, Searchable};
@@ -12,7 +12,7 @@ use basics::wide;
 
 // The length of a meter's word.
 fn length_of(p: u64, word: u32) -> u64
-    requires { ⌜ (p ≤ 65535) × (byteB word ≤ 7) ⌝ }
+    requires { ⌜ (p ≤ largestSize) × (byteB word ≤ 7) ⌝ }
     ensures { λ r. ⌜ r ≡ 4 * p * upperFigure word / lowerFigure word ⌝ }
 {
     let upper = wide(track_events::byte_a(word));
@@ -22,7 +22,7 @@ fn length_of(p: u64, word: u32) -> u64
 
 // The length of the first meter at any tick, else of 4/4. It may be 0.
 pub fn first_meter_length(p: u64, words: &[u32]) -> u64
-    requires { ⌜ (p ≤ 65535) × All (λ w. wellFormed w ≡ true) (now words) ⌝ }
+    requires { ⌜ (p ≤ largestSize) × All (λ w. wellFormed w ≡ true) (now words) ⌝ }
     ensures { λ r. ⌜ r ≡ meterLength p (meterIn (now (words .entry))) ⌝ }
 {
     let mut i = 0;
@@ -88,7 +88,7 @@ fn put_event(
     places: &mut [u64],
     details: &mut [u64],
 ) -> usize
-    requires { ⌜ (track ≤ 65535) × (event < 2 ^ 32) × (tick < 2 ^ 47) × (at < 2 ^ 32) ⌝ }
+    requires { ⌜ (track ≤ largestSize) × (event < 2 ^ 32) × (tick < 2 ^ 47) × (at < 2 ^ 32) ⌝ }
     ensures { λ r. ⌜ Found (foundOne group track (record { number = event; tick = tick; word = word })) at
         (now (places .entry)) (now (details .entry)) r (now (places .exit)) (now (details .exit)) ⌝ }
 {

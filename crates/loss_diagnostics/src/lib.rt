@@ -9,7 +9,7 @@ ghost use Rattle.rules.specs.Piece.{piece, tracks};
 ghost use Rattle.rules.specs.Diagnostics.{placeOf, detailOf, timecodeFound, offMeasureFound, inTracks, systemFound, unmatchedFound, diagnostics};
 ghost use Rattle.laws.specs.Admitted.{Admitted};
 ghost use Rattle.findings.specs.Found.{FoundIn};
-ghost use Rattle.loss_diagnostics.specs.Pieces.{CanFind};
+ghost use Rattle.loss_diagnostics.specs.Pieces.{mostDiagnostics, CanFind};
 use basics::size;
 use event_diagnostics::Group;
 use event_diagnostics::find_events;
@@ -143,7 +143,7 @@ fn find_all(
     n: usize,
 ) -> usize
     requires { ⌜ CanFind (piece (now sizes) (now deltas) (now words)) (now work) n ⌝ }
-    ensures { λ r. ⌜ FoundIn (diagnostics (piece (now (sizes .entry)) (now (deltas .entry)) (now (words .entry)))) 1500001 0
+    ensures { λ r. ⌜ FoundIn (diagnostics (piece (now (sizes .entry)) (now (deltas .entry)) (now (words .entry)))) mostDiagnostics 0
         (now (places .entry)) (now (details .entry)) r (now (places .exit)) (now (details .exit)) ⌝ }
 {
     let at = find_timecode(sizes, places, details);
@@ -161,7 +161,7 @@ pub fn count_diagnostics(
     n: usize,
 ) -> usize
     requires { ⌜ CanFind (piece (now sizes) (now deltas) (now words)) (now work) n ⌝ }
-    ensures { λ r. ⌜ (r ≡ length (diagnostics (piece (now (sizes .entry)) (now (deltas .entry)) (now (words .entry))))) × (r ≤ 1500001) ⌝ }
+    ensures { λ r. ⌜ (r ≡ length (diagnostics (piece (now (sizes .entry)) (now (deltas .entry)) (now (words .entry))))) × (r ≤ mostDiagnostics) ⌝ }
 {
     let mut places = [0u64; 1];
     let mut details = [0u64; 1];

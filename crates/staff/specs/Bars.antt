@@ -13,7 +13,7 @@ use Rattle.items.specs.Putting.{Put}
 use Rattle.items.specs.Writing.{Items, Room}
 use Rattle.staff.specs.declared.Engraving.{Engraving}
 use Rattle.staff.specs.declared.Reached.{Reached}
-use Rattle.staff.specs.Voices.{voiceOf, VoiceHeld, Past, voiceFrom}
+use Rattle.bar_voice.specs.Voices.{voiceOf, VoiceHeld, Past, voiceFrom}
 
 -- ---- one voice
 

@@ -85,7 +85,9 @@ module _ {s ds ws : List ℕ} {i from : ℕ} (cut : Cut s ds ws i from) (h : i <
   track-count : noteCount next ≡ length (keep isOn (stretch from (from + getD s i 0) ws))
   track-count =
       let fits = cut-fits cut h in
-      timed-count 0 0 _ _ (length-stretch from (from + getD s i 0) ws (omega arith) (omega (arith, cut .same)) ∙ sym (length-stretch from (from + getD s i 0) ds (omega arith) fits))
+      let there = length-stretch from (from + getD s i 0) ws (omega arith) (omega (arith, cut .same)) in
+      let here = length-stretch from (from + getD s i 0) ds (omega arith) fits in
+      timed-count 0 0 _ _ (there ∙ sym here)
 
   track-notes : hasNotes next ≡ ltb 0 (length (keep isOn (stretch from (from + getD s i 0) ws)))
   track-notes = any-count (λ (e : Event). isOn (e .word)) next ∙ ap (ltb 0) track-count
@@ -115,7 +117,13 @@ pub record Surveyed (s ds ws : List ℕ) (r : Counts) (i from : ℕ) : Type 0 wh
 module _ {s ds ws : List ℕ} where
   pub survey-start : sizesAgree (piece s ds ws) ≡ true → Surveyed s ds ws (record { parts = 0; most = 0 }) 2 0
   unfolding partsFrom mostFrom mostNotes
-  survey-start h = record { cut = cut-start s ds ws h; few = omega arith; parts = rw zero-add (sym (length-take mostParts (keep hasNotes (tracks (piece s ds ws))))); most = omega arith }
+  survey-start h =
+      record {
+        cut = cut-start s ds ws h;
+        few = omega arith;
+        parts = rw zero-add (sym (length-take mostParts (keep hasNotes (tracks (piece s ds ws)))));
+        most = omega arith;
+      }
 
   pub survey-next : {r r′ : Counts} {i from n : ℕ} → Surveyed s ds ws r i from → i < length s
       → n ≡ length (keep isOn (stretch from (from + getD s i 0) ws)) → OneMore r n r′ → Surveyed s ds ws r′ (i + 1) (from + getD s i 0)
@@ -146,11 +154,12 @@ pub record Seeking (s ds ws : List ℕ) (k before i from : ℕ) : Type 0 where
 module _ {s ds ws : List ℕ} {k : ℕ} where
   pub seek-start : sizesAgree (piece s ds ws) ≡ true → k < length (parts (piece s ds ws)) → Seeking s ds ws k k 2 0
   seek-start h l =
-      let few : k < min mostParts (length (keep hasNotes (tracks (piece s ds ws)))) = rw (← length-take mostParts (keep hasNotes (tracks (piece s ds ws)))) l in
+      let with-notes : List (List Event) = keep hasNotes (tracks (piece s ds ws)) in
+      let few : k < min mostParts (length with-notes) = rw (← length-take mostParts with-notes) l in
       record {
         cut = cut-start s ds ws h;
         there = omega arith;
-        is = sym (getD-take mostParts (keep hasNotes (tracks (piece s ds ws))) k [] (omega arith));
+        is = sym (getD-take mostParts with-notes k [] (omega arith));
       }
 
   module _ {before i from n : ℕ} (v : Seeking s ds ws k before i from) (h : i < length s)
@@ -205,7 +214,8 @@ pub first-some : (s : List ℕ) → 3 ≤ length s → FirstSpan s (record { fro
 first-some s l ds ws h =
     let cut = cut-start s ds ws h in
     let fits = cut-fits cut l in
-    let all : tracks (piece s ds ws) ≡ eventsOf (stretch 0 (getD s 2 0) ds) (stretch 0 (getD s 2 0) ws) ∷ later s ds ws 3 (getD s 2 0) = rw zero-add at (later-cons cut l) in
+    let to = getD s 2 0 in
+    let all : tracks (piece s ds ws) ≡ eventsOf (stretch 0 to ds) (stretch 0 to ws) ∷ later s ds ws 3 to = rw zero-add at (later-cons cut l) in
     record { order = omega arith; deltas = omega arith; words = omega (arith, cut .same); events = rw all }
 
 -- ---- a stretch of an admitted piece is a track

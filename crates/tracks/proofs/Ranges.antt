@@ -19,7 +19,8 @@ use Rattle.laws.proofs.Refusals.{sizes-agree}
 use Rattle.laws.proofs.NoteRanges.{EventIn, notes-in-range}
 use Rattle.track_events.proofs.Ranges.{events-in}
 
-tracks-in : (limit : ℕ) (ns ds ws : List ℕ) → length ds * largestDelta < limit → All (λ d. d ≤ largestDelta) ds → All (λ w. wellFormed w ≡ true) ws
+tracks-in : (limit : ℕ) (ns ds ws : List ℕ) → length ds * largestDelta < limit
+    → All (λ d. d ≤ largestDelta) ds → All (λ w. wellFormed w ≡ true) ws
     → All (All (EventIn limit)) (cutTracks ns ds ws)
 unfolding cutTracks
 tracks-in limit [] ds ws l h k = tt
@@ -91,4 +92,5 @@ most-each x n h = each-most (tracks x) n h
 pub parts-most : (x : Piece) → All (λ es. ons es ≤ mostNotes x) (parts x)
 parts-most x =
     All-take (λ es. ons es ≤ mostNotes x) mostParts (keep hasNotes (tracks x))
-    (All-imp (λ es k. k .0) (keep hasNotes (tracks x)) (All-keep (λ es. ons es ≤ mostNotes x) hasNotes (tracks x) (most-each x (mostNotes x) (omega arith))))
+    (All-imp (λ es k. k .0) (keep hasNotes (tracks x))
+    (All-keep (λ es. ons es ≤ mostNotes x) hasNotes (tracks x) (most-each x (mostNotes x) (omega arith))))

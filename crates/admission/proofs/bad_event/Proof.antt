@@ -75,7 +75,10 @@ bad-event-spec =
     (λ c. omega (arith, c .before .before .before .before .before .pre .2))
     returns
     (λ c. omega (arith, c .before .before .before .before .before .before .pre .2))
-    (λ c. let pre = c .before .before .before .before .before .before .before .pre in omega (arith, pre .2, pre .0))
+    (λ c.
+    let at-loop = c .before .before .before .before in
+    let pre = at-loop .before .before .before .pre in
+    omega (arith, pre .2, pre .0))
     (λ c κs. omega arith)
     returns-2
     (λ c. omega arith)

@@ -23,20 +23,23 @@ returns-2 c =
 returns-3 : tie.Need-returns-3
 returns-3 c =
     let at-size = c .before in
-    let x = at-size .before .before .before .before .before .before .before .before .args in
+    let at-if1 = at-size .before .before .before .before in
+    let x = at-if1 .before .before .before .before .args in
     sym (disagrees (piece (x .sizes .now) (x .deltas .now) (x .words .now)) (λ a. omega (arith, a .sizes, at-size .size .ensures)))
 
 returns-4 : tie.Need-returns-4
 returns-4 c =
     let at-size = c .before .before .before in
-    let x = at-size .before .before .before .before .before .before .before .before .args in
+    let at-if1 = at-size .before .before .before .before in
+    let x = at-if1 .before .before .before .before .args in
     sym (disagrees (piece (x .sizes .now) (x .deltas .now) (x .words .now)) (λ a. omega (arith, a .division)))
 
 returns-5 : tie.Need-returns-5
 returns-5 c =
     let at-total = c .before in
     let at-size = at-total .before .before .before .before .before in
-    let x = at-size .before .before .before .before .before .before .before .before .args in
+    let at-if1 = at-size .before .before .before .before in
+    let x = at-if1 .before .before .before .before .args in
     let total : at-total .total .result ≡ sum (drop 2 (x .sizes .now)) = at-total .total .ensures ∙ ap sum (take-rest 2 (x .sizes .now)) in
     sym (disagrees (piece (x .sizes .now) (x .deltas .now) (x .words .now)) (λ a. omega (arith, a .deltas)))
 
@@ -44,7 +47,8 @@ returns-6 : tie.Need-returns-6
 returns-6 c =
     let at-total = c .before .before in
     let at-size = at-total .before .before .before .before .before in
-    let x = at-size .before .before .before .before .before .before .before .before .args in
+    let at-if1 = at-size .before .before .before .before in
+    let x = at-if1 .before .before .before .before .args in
     let total : at-total .total .result ≡ sum (drop 2 (x .sizes .now)) = at-total .total .ensures ∙ ap sum (take-rest 2 (x .sizes .now)) in
     sym (disagrees (piece (x .sizes .now) (x .deltas .now) (x .words .now)) (λ a. omega (arith, a .words)))
 
@@ -52,7 +56,8 @@ returns-7 : tie.Need-returns-7
 returns-7 c =
     let at-total = c .before .before in
     let at-size = at-total .before .before .before .before .before in
-    let x = at-size .before .before .before .before .before .before .before .before .args in
+    let at-if1 = at-size .before .before .before .before in
+    let x = at-if1 .before .before .before .before .args in
     let total : at-total .total .result ≡ sum (drop 2 (x .sizes .now)) = at-total .total .ensures ∙ ap sum (take-rest 2 (x .sizes .now)) in
     sym
     (agrees (piece (x .sizes .now) (x .deltas .now) (x .words .now)) (record {

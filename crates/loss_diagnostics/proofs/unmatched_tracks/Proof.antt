@@ -3,8 +3,9 @@ use Prim.Native.Nat.{_-_}
 use native.Mathlib.Omega.{arith}
 use lib.ListN.{length}
 use Rattle.pairing.proofs.Grids.{zeros-grid, zeros-empty}
+use Rattle.tracks.proofs.Cuts.{cut-deltas, cut-words}
 use Rattle.findings.proofs.Putting.{places-kept, details-kept}
-use Rattle.loss_diagnostics.proofs.Walking.{Ahead, walking-ahead, walking-end, Tracking, tracking-start, tracking-fresh, tracking-next}
+use Rattle.loss_diagnostics.proofs.Walking.{walking-end, Tracking, tracking-start, tracking-fresh, tracking-next}
 use Rattle.loss_diagnostics.proofs.unmatched_tracks.Statement.{statement}
 use Rattle.loss_diagnostics.proofs.unmatched_tracks.Tie as tie
 
@@ -16,14 +17,11 @@ abbrev μ-loop : tie.MeasureT-loop
 μ-loop sizes deltas words at places₀ details₀ work₀ n heads₀ tails₀ next₀ from₀ i₀ places details work heads tails next from i =
     length sizes - i
 
--- the track's events are within the arrays
-ahead : (c : tie.After-size Inv-loop μ-loop)
-    → let at-loop = c .before .before .before in
-    let start = at-loop .before .before .before .before .before .before .before in
-    Ahead (at-loop .loop .from) (c .size .result) (at-loop .loop .i) (start .args .deltas .now) (start .args .words .now)
-ahead c =
-    let at-loop = c .before .before .before in
-    walking-ahead (at-loop .before .before .before .before .before .before .before .pre .0 .admitted) (at-loop .loop .inv .walk) (omega arith) (c .size .ensures)
+cut-requires : tie.Need-cut-requires Inv-loop μ-loop
+cut-requires c κs = cut-deltas (c .before .before .before .loop .inv .walk .cut) (omega arith) (c .size .ensures)
+
+cut-requires-2 : tie.Need-cut-requires-2 Inv-loop μ-loop
+cut-requires-2 c κs = let at-size = c .before in cut-words (at-size .before .before .before .loop .inv .walk .cut) (omega arith) (at-size .size .ensures)
 
 unmatched-notes-requires : tie.Need-unmatched-notes-requires Inv-loop μ-loop
 unmatched-notes-requires c κs =
@@ -56,10 +54,10 @@ unmatched-tracks-spec =
     (λ c. omega arith)
     (λ c. omega arith)
     (λ c κs. tt)
-    (λ c. omega (arith, ahead c .deltas .1))
-    (λ c κs. ahead c .deltas)
-    (λ c κs. ahead (c .before) .words)
-    (λ c. omega (arith, ahead (c .before .before .before .before .before) .number))
+    (λ c. omega (arith, cut-deltas (c .before .before .before .loop .inv .walk .cut) (omega arith) (c .size .ensures) .1))
+    cut-requires
+    cut-requires-2
+    (λ c. let at-size = c .before .before .before .before .before in omega (arith, at-size .before .before .before .loop .inv .walk .behind))
     unmatched-notes-requires
     (λ c. omega arith)
     (λ c. omega arith)

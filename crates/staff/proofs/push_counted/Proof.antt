@@ -6,8 +6,8 @@ use borrow.Author.Needs.{needs}
 use lib.Dec.{eqb}
 use lib.ListN.{length}
 use Rattle.items.specs.Writing.{quarter}
-use Rattle.staff.specs.Voices.{voiceOf, voiceFrom}
-use Rattle.staff.proofs.Few.{voice-few}
+use Rattle.bar_voice.specs.Voices.{voiceOf, voiceFrom}
+use Rattle.bar_voice.proofs.Few.{voice-few}
 use Rattle.staff.proofs.push_counted.Statement.{statement}
 use Rattle.staff.proofs.push_counted.Tie as tie
 
