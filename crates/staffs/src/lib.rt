@@ -92,7 +92,7 @@ pub fn staff_size(
     let first_deltas = track_events::cut(deltas, s.from, s.to);
     let first_words = track_events::cut(words, s.from, s.to);
     let lens = v.lens;
-    let size = engraver::measure_staff(
+    let measured = engraver::measure_staff(
         s.p,
         first_deltas,
         first_words,
@@ -103,7 +103,7 @@ pub fn staff_size(
         lens,
     );
     basics::clear(work);
-    StaffAnswer::Given(size)
+    StaffAnswer::Given(measured)
 }
 
 // No room in the outputs is refused by number 8.
@@ -135,15 +135,15 @@ pub fn engrave(
         (now (counts .entry)) (now (heads .entry)) (now (keys .entry)) (now (work .entry))
         (answerOf r) (now (counts .exit)) (now (heads .exit)) (now (keys .exit)) (now (work .exit)) ⌝ }
 {
-    let v = part_voices(sizes, deltas, words, part, work);
-    if v.number != 0 {
+    let voices = part_voices(sizes, deltas, words, part, work);
+    if voices.number != 0 {
         basics::clear(work);
-        return StaffAnswer::Refused(v.number);
+        return StaffAnswer::Refused(voices.number);
     }
     let s = bar_source::bar_source(sizes, deltas, words);
     let first_deltas = track_events::cut(deltas, s.from, s.to);
     let first_words = track_events::cut(words, s.from, s.to);
-    let lens = v.lens;
+    let lens = voices.lens;
     let written = engraver::write_staff(
         s.p,
         first_deltas,
@@ -151,7 +151,7 @@ pub fn engrave(
         s.end,
         MOST_BARS,
         work,
-        v.most,
+        voices.most,
         lens,
         counts,
         heads,

@@ -86,46 +86,6 @@ module _ (p : ℕ) where
   table-split t h =
       split-listed (flatMap (λ c. value p c 1 ∷ value p c 0 ∷ []) staffCodes) t ∙ sym (split-literal p t h)
 
--- The first entry from i on that fits.
-abbrev fitting : ℕ → Value → Bool
-fitting t v = ltb 0 (v .ticks) && leb (v .ticks) t
-
-unfoldable pub firstFit : List ℕ → ℕ → ℕ → Option Value
-firstFit table i t = head? (keep (fitting t) (map (entry table) (count i (18 - i))))
-
-module _ (table : List ℕ) (i t : ℕ) where
-  pub first-end : 18 ≤ i → firstFit table i t ≡ none
-  unfolding firstFit keep
-  first-end h = rw (count-none i 18 h)
-
-  pub first-here : i < 18 → (ltb 0 (getD table i 0) && leb (getD table i 0) t) ≡ true → firstFit table i t ≡ some (entry table i)
-  unfolding firstFit keep
-  first-here h e = rw (count-cons i 18 h, e)
-
-  pub first-over : i < 18 → (ltb 0 (getD table i 0) && leb (getD table i 0) t) ≡ false → firstFit table i t ≡ firstFit table (i + 1) t
-  unfolding firstFit keep
-  first-over h e = rw (count-cons i 18 h, e)
-
-module _ (p : ℕ) where
-  keep-listed : (vs : List Value) (t : ℕ) → All (λ (v : Value). 0 < v .ticks) (keep (whole p) vs)
-      → keep (fitting t) (map (listed p) vs) ≡ keep (λ (v : Value). leb (v .ticks) t) (keep (whole p) vs)
-  unfolding keep listed
-  keep-listed [] t h = refl
-  keep-listed (v ∷ vs) t h =
-      elim (by-bool (whole p v)) [
-        | inl e ↦
-            let k : (0 < v .ticks) × All (λ (w : Value). 0 < w .ticks) (keep (whole p) vs) = rw e at h in
-            rw (e, lt-ltb 0 (v .ticks) (k .0)) (go (leb (v .ticks) t) (keep-listed vs t (k .1)))
-        | inr e ↦ rw e (keep-listed vs t (rw e at h))
-      ]
-    where
-      go : (b : Bool) {ws us : List Value} → ws ≡ us → cond b (v ∷ ws) ws ≡ cond b (v ∷ us) us
-      go b e = ap (λ (l : List Value). cond b (v ∷ l) l) e
-
-  pub table-first : (t : ℕ) → 0 < p → firstFit (tableOf p) 0 t ≡ longest p t
-  unfolding firstFit count tableOf values flatMap whole listed
-  table-first t h = ap head? (keep-listed (flatMap (λ c. value p c 1 ∷ value p c 0 ∷ []) staffCodes) t (values-long p h))
-
 -- Of the pieces of t ticks n are counted, and the ticks left go to the entries from i on.
 pub record Counted (table : List ℕ) (t n left i : ℕ) : Type 0 where
   pub within : i ≤ 18
