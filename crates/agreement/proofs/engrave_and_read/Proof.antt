@@ -5,7 +5,7 @@ use native.Mathlib.Omega.{arith}
 use borrow.Author.Needs.{needs}
 use lib.ListN.{length}
 use lib.Seq.{length-take-le}
-use Rattle.engraver.specs.Parts.{answerOf}
+use Rattle.staffs.specs.Parts.{answerOf}
 use Rattle.agreement.proofs.Together.{engraving-refused, counts-fit, heads-fit, keys-fit, read-together}
 use Rattle.agreement.proofs.engrave_and_read.Statement.{statement}
 use Rattle.agreement.proofs.engrave_and_read.Tie as tie
