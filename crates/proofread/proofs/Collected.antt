@@ -56,9 +56,11 @@ module _ {es : List Event} {n m : ℕ} {w : List ℕ} (noted : Noted es n m w) (
       let x : RawNote = getD (rawNotes es) i noNote in
       let r = in-range i h in
       let s : getD w (n + i) 0 ≡ startWord x =
-      sym (part-get n n w i 0 (omega arith)) ∙ sym (getD-take m _ i 0 h) ∙ ap (λ (l : List ℕ). getD l i 0) (noted .starts) ∙ getD-map startWord (rawNotes es) i 0 noNote (omega arith) in
+      sym (part-get n n w i 0 (omega arith)) ∙ sym (getD-take m _ i 0 h) ∙ ap (λ (l : List ℕ). getD l i 0) (noted .starts)
+      ∙ getD-map startWord (rawNotes es) i 0 noNote (omega arith) in
       let e : getD w i 0 ≡ endWord x =
-      sym (getD-take n w i 0 (omega arith)) ∙ sym (getD-take m _ i 0 h) ∙ ap (λ (l : List ℕ). getD l i 0) (noted .ends) ∙ getD-map endWord (rawNotes es) i 0 noNote (omega arith) in
+      sym (getD-take n w i 0 (omega arith)) ∙ sym (getD-take m _ i 0 h) ∙ ap (λ (l : List ℕ). getD l i 0) (noted .ends)
+      ∙ getD-map endWord (rawNotes es) i 0 noNote (omega arith) in
       let q₁ : getD w (n + i) 0 / 128 ≡ x .start = omega arith in
       let q₂ : getD w i 0 / 16 ≡ x .end = omega arith in
       let q₃ : getD w (n + i) 0 % 128 ≡ x .key = omega arith in

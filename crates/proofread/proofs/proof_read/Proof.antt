@@ -25,7 +25,8 @@ admitted : (c : tie.Else1) → Admitted (given (start (c .before .before)))
 admitted c = part-admitted _ _ (c .before .before .open-part .ensures) (c .if1 .left)
 
 -- there is room for work
-enough : (c : tie.Else2) → workFor (c .before .before .before .before .open-part .result .most) ≤ length (start (c .before .before .before .before) .args .work .now)
+enough : (c : tie.Else2)
+    → workFor (c .before .before .before .before .open-part .result .most) ≤ length (start (c .before .before .before .before) .args .work .now)
 enough c = rw (c .before .work-for .ensures) at (c .if2 .left)
 
 returns : tie.Need-returns

@@ -8,7 +8,8 @@ use borrow.Author.Tests.{not-true, not-false}
 use Rattle.proofread_notes.proofs.Areas.{readable-same}
 use Rattle.bar_walk.specs.declared.Walker.{Walker}
 use Rattle.bar_walk.proofs.WalkLaws.{walking-sane, walking-ready}
-use Rattle.proofread_voices.proofs.Walks.{Along, along-start, along-end, along-fails, along-last, along-more, four-left, four-fit, items-fit, past-paced, voice-ends}
+use Rattle.proofread_voices.proofs.Walks.{Along, along-start, along-end, along-fails, along-last, along-more}
+use Rattle.proofread_voices.proofs.Walks.{four-left, four-fit, items-fit, past-paced, voice-ends}
 use Rattle.proofread_voices.proofs.read_voice.Statement.{statement}
 use Rattle.proofread_voices.proofs.read_voice.Tie as tie
 
