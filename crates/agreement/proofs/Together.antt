@@ -25,7 +25,7 @@ use Rattle.laws.proofs.VoiceLaws.{voices-four}
 use Rattle.items.proofs.Appending.{keys-length}
 use Rattle.staff.proofs.StaffSizes.{counts-length}
 use Rattle.agreement.specs.Together.{engraveRefusals, togetherCall, Together}
-use Rattle.agreement.proofs.Demand.{engraved-yes}
+use Rattle.playback.proofs.Demand.{engraved-yes}
 
 -- ---- refused or given
 
@@ -67,9 +67,9 @@ module _ (x : Piece) (k : ℕ) {counts₀ heads₀ keys₀ work₀ counts₁ hea
     abbrev refusals : List Refusal
     refusals = engraveRefusals x k (length counts₀) (length heads₀) (length keys₀) (length work₀)
 
-    -- the number of an engraving that is turned back
-    pub turned-back : (n : ℕ) → refused n ≡ answer → Together x k counts₀ heads₀ keys₀ work₀ (refused n) counts₁ heads₁ keys₁ work₁
-    turned-back n h =
+    -- the number of an engraving that is refused
+    pub engraving-refused : (n : ℕ) → refused n ≡ answer → Together x k counts₀ heads₀ keys₀ work₀ (refused n) counts₁ heads₁ keys₁ work₁
+    engraving-refused n h =
         record {
           answered = refused-first (λ (s : StaffArrays). partSize x k) (partArrays x k) true _ refusals n (h ∙ engraved .answered);
           counts = engraved .counts;

@@ -14,10 +14,11 @@ use Rattle.laws.proofs.Order.{by-bool}
 use Rattle.track_events.specs.Track.{Track, eventsOf}
 use Rattle.track_events.proofs.Tracks.{timed-length}
 use Rattle.laws.proofs.Loops.{keep-left, keep-done}
+use Rattle.auxiliary_channels.specs.Markers.{Drops}
 use Rattle.automation_events.specs.declared.Kind.{Kind}
 use Rattle.automation_events.specs.declared.Kind.the-variants.{Bend, Controller, Program, Pressure}
 use Rattle.automation_events.specs.declared.Counts.{Counts}
-use Rattle.automation_events.specs.Kinds.{Drops, isOne, wanted, countOf, Counted, AtMost, AreCounts}
+use Rattle.automation_events.specs.Kinds.{isOne, wanted, countOf, Counted, AtMost, AreCounts}
 use Rattle.laws.proofs.Tests.{keep-few}
 use Rattle.automation_events.proofs.KindLaws.{wanted-automation}
 

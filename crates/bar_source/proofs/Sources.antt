@@ -7,8 +7,8 @@ use Rattle.rules.specs.Piece.{Piece}
 use Rattle.laws.specs.Admitted.{Admitted}
 use Rattle.laws.proofs.Refusals.{ticks-per-quarter-positive}
 use Rattle.track_events.specs.Track.{eventsOf, stretch}
-use Rattle.piece.proofs.Cuts.{span-track}
-use Rattle.piece.proofs.Ranges.{end-at-most, quarter-fits}
+use Rattle.tracks.proofs.Cuts.{span-track}
+use Rattle.tracks.proofs.Ranges.{end-at-most, quarter-fits}
 use Rattle.bar_walk.specs.Walk.{CanWalk}
 use Rattle.bar_source.specs.declared.BarSource.{BarSource}
 use Rattle.bar_source.specs.Source.{IsBarSource}

@@ -2,7 +2,7 @@
 use mathlib.Core.Path.{_≡_}
 use Rattle.rules.specs.Bars.{endOfPiece}
 use Rattle.rules.specs.Piece.{Piece, firstTrack, ticksPerQuarter}
-use Rattle.piece.specs.Spans.{IsSpan}
+use Rattle.tracks.specs.Spans.{IsSpan}
 use Rattle.bar_source.specs.declared.BarSource.{BarSource}
 
 -- r has the ticks per quarter, the end of the piece, and where its first track stands

@@ -16,9 +16,9 @@ pub fn bar_source(sizes: &[u32], deltas: &[u32], words: &[u32]) -> BarSource
     requires { ⌜ Admitted (piece (now sizes) (now deltas) (now words)) ⌝ }
     ensures { λ r. ⌜ IsBarSource (piece (now (sizes .entry)) (now (deltas .entry)) (now (words .entry))) r ⌝ }
 {
-    let track = piece::first_track(sizes);
+    let track = tracks::first_track(sizes);
     BarSource {
-        p: piece::ticks_per_quarter(sizes),
+        p: tracks::ticks_per_quarter(sizes),
         end: ends::end_of_piece(sizes, deltas, words),
         from: track.from,
         to: track.to,

@@ -6,6 +6,7 @@ use native.Mathlib.Omega.{arith}
 use lib.ListN.{length, getD}
 use lib.Seq.{getD-take}
 use Rattle.rules.specs.Lists.{All}
+use Rattle.rules.specs.Piece.{largestSize}
 use Rattle.rules.specs.RawNotes.{RawNote}
 use Rattle.laws.specs.NoteWords.{startWord, endWord, NotesIn, InRange}
 use Rattle.laws.proofs.Lists.{All-get}
@@ -40,7 +41,7 @@ module _ {ns : List RawNote} {n m : ℕ} {w : List ℕ} (given : NotesIn ns n m 
   pub notes-read : upTo (noteAt n w) m ≡ ns
   notes-read = upTo-is (noteAt n w) m noNote ns (sym (given .all)) note-read
 
-  pub notes-ready : {g : ℕ} → 16 * n ≤ length w → 0 < g → g ≤ 65535 → Ready n m g w
+  pub notes-ready : {g : ℕ} → 16 * n ≤ length w → 0 < g → g ≤ largestSize → Ready n m g w
   notes-ready area p q =
       let all = given .all in
       let room = given .room in

@@ -17,11 +17,11 @@ use Rattle.laws.proofs.Lists.{All-append, All-left, All-right, All-get}
 use Rattle.laws.proofs.Places.{none-empty, some-left}
 use Rattle.laws.proofs.Refusals.{admitted, passes-append, Numbered, number-first, number-after, number-refused, number-passes}
 use Rattle.track_events.specs.Track.{Track, eventsOf, stretch}
-use Rattle.piece.specs.Spans.{IsSpan}
-use Rattle.piece.specs.declared.Span.{Span}
-use Rattle.piece.proofs.Cuts.{span-track}
-use Rattle.piece.proofs.Numbers.{piece-numbers}
-use Rattle.piece.proofs.Ranges.{ons, parts-most, most-few}
+use Rattle.tracks.specs.Spans.{IsSpan}
+use Rattle.tracks.specs.declared.Span.{Span}
+use Rattle.tracks.proofs.Cuts.{span-track}
+use Rattle.admission.proofs.Numbers.{piece-numbers}
+use Rattle.tracks.proofs.Ranges.{ons, parts-most, most-few}
 use Rattle.opening.specs.declared.Opened.{Opened}
 use Rattle.opening.specs.declared.OpenedPart.{OpenedPart}
 use Rattle.opening.specs.Opening.{PieceOpened, PartOpened}

@@ -7,7 +7,7 @@ use Rattle.rules.specs.Calls.{partTrack}
 use Rattle.rules.specs.Piece.{Piece}
 use Rattle.rules.specs.RawNotes.{parts, mostNotes}
 use Rattle.rules.specs.Refusals.{Refusal, firstNumber, partRefusals}
-use Rattle.piece.specs.Spans.{IsSpan}
+use Rattle.tracks.specs.Spans.{IsSpan}
 use Rattle.opening.specs.declared.Opened.{Opened}
 use Rattle.opening.specs.declared.OpenedPart.{OpenedPart}
 

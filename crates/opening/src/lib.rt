@@ -23,7 +23,7 @@ pub fn open_piece(sizes: &[u32], deltas: &[u32], words: &[u32]) -> Opened
     ensures { λ r. ⌜ PieceOpened (piece (now (sizes .entry)) (now (deltas .entry)) (now (words .entry)))
         (pieceRefusals (piece (now (sizes .entry)) (now (deltas .entry)) (now (words .entry)))) r ⌝ }
 {
-    let number = piece::admission(sizes, deltas, words);
+    let number = admission::admission(sizes, deltas, words);
     if number != 0 {
         return Opened {
             number,
@@ -31,7 +31,7 @@ pub fn open_piece(sizes: &[u32], deltas: &[u32], words: &[u32]) -> Opened
             most: 0,
         };
     }
-    let counts = piece::survey(sizes, deltas, words);
+    let counts = tracks::survey(sizes, deltas, words);
     Opened {
         number: 0,
         parts: counts.parts,
@@ -79,7 +79,7 @@ pub fn open_part(sizes: &[u32], deltas: &[u32], words: &[u32], part: u32) -> Ope
             to: 0,
         };
     }
-    let track = piece::part_track(sizes, deltas, words, part as usize);
+    let track = tracks::part_track(sizes, deltas, words, part as usize);
     OpenedPart {
         number: 0,
         most: opened.most,

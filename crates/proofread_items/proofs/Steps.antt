@@ -92,7 +92,8 @@ and-true false b c h = h
 pub fits-code : (p : ℕ) (h : Option facts.Tie) (v : Voice) (i : Item) → fits? p h (timedAt p v i) ≡ true → i .code ≤ 8
 fits-code p h v i f = leb-true (i .code) 8 (and-true _ _ _ (and-true _ _ _ f))
 
-heard-is : {a b : Heard} → a .ok ≡ b .ok → a .tie ≡ b .tie → a .chord ≡ b .chord → a .closed ≡ b .closed → a ≡ b
+-- what is heard, by its four parts
+pub heard-is : {a b : Heard} → a .ok ≡ b .ok → a .tie ≡ b .tie → a .chord ≡ b .chord → a .closed ≡ b .closed → a ≡ b
 heard-is o t c l = λ i. record { ok = o i; tie = t i; chord = c i; closed = l i }
 
 module _ {g n m e p : ℕ} (i : Item) {w : List ℕ} (v : Voice) (ok : v .ok ≡ true) where

@@ -1,6 +1,6 @@
 -- What is heard of a voice item by item is section 8's playback, and its tests are section 8's.
 use Prim.Native.Nat.{ℕ}
-use mathlib.Core.Bool.{Bool, true, false, cond, _&&_, _||_}
+use mathlib.Core.Bool.{Bool, true, false, cond, _&&_, _||_, and-assoc, and-true, and-false, and-comm}
 use mathlib.Core.List.{List, [], _∷_, _++_, reverse, reverse-cons, foldl-append}
 use mathlib.Core.Option.{Option, none, some}
 use mathlib.Core.Path.{_≡_, refl, sym, ap, _∙_}
@@ -14,7 +14,18 @@ use Rattle.rules.specs.ProofReaderTests.{staffValue?, clean?, meets?, freeAt?, 
 use Rattle.proofread_notes.specs.Chords.{chordOk?}
 use Rattle.proofread_items.specs.Playing.{Heard, fits?, lastOk?, closedWith, prolongedTo, soundOk?, chordAfter, closedAfter, hearOne, run}
 use Rattle.proofread_voices.specs.Voices.{filled?, withOk, voiceRun, silent, voiceOk?}
-use Rattle.proofread_staff.proofs.Shuffles.{and-assoc, and-true, and-false, and-comm, and-swap}
+
+-- ---- tests in another order
+
+and-swap : (a b c : Bool) → ((a && b) && c) ≡ ((a && c) && b)
+and-swap true b c = and-comm b c
+and-swap false b c = refl
+
+pub and-cross : (a b A B : Bool) → ((a && b) && (A && B)) ≡ ((a && A) && (b && B))
+and-cross true true A B = refl
+and-cross true false true B = refl
+and-cross true false false B = refl
+and-cross false b A B = refl
 
 -- ---- the last chord, and those before it
 
@@ -187,13 +198,8 @@ module _ (p e : ℕ) (ns : List RawNote) where
       last false w f = refl
   order-points (c ∷ d ∷ cs) =
       ap (λ (b : Bool). (keysMeant? e ns c && (endsWithNote? ns c || eqb (c .end) (d .start) || eqb (c .end) e)) && b) (order-points (d ∷ cs))
-      ∙ shuffle (keysMeant? e ns c) (endsWithNote? ns c || eqb (c .end) (d .start) || eqb (c .end) e) (every (keysMeant? e ns) (d ∷ cs)) (endsMeant? e ns (d ∷ cs))
-    where
-      shuffle : (k w K W : Bool) → ((k && w) && (K && W)) ≡ ((k && K) && (w && W))
-      shuffle true true K W = refl
-      shuffle true false true W = refl
-      shuffle true false false W = refl
-      shuffle false w K W = refl
+      ∙ and-cross (keysMeant? e ns c) (endsWithNote? ns c || eqb (c .end) (d .start) || eqb (c .end) e)
+      (every (keysMeant? e ns) (d ∷ cs)) (endsMeant? e ns (d ∷ cs))
 
   -- the chords of a voice that are heard are those that are meant
   pub chords-points : (cs : List Played) → chordsOk? e cs ≡ (every (keysMeant? e ns) (reverse cs) && endsMeant? e ns (reverse cs))

@@ -1,6 +1,6 @@
 -- Section 8's points voice by voice: a staff is right exactly if each of its four voices is, and every note is found.
 use Prim.Native.Nat.{ℕ, _+_}
-use mathlib.Core.Bool.{Bool, true, false, _&&_}
+use mathlib.Core.Bool.{Bool, true, false, _&&_, and-assoc}
 use mathlib.Core.List.{List, [], _∷_, _++_, map}
 use mathlib.Core.Option.{none}
 use mathlib.Core.Path.{_≡_, refl, sym, ap, _∙_}
@@ -18,8 +18,7 @@ use Rattle.laws.proofs.Lists.{by-four}
 use Rattle.laws.proofs.Reflection.{says-flag, says-true, says-and, says-and4, says-as}
 use Rattle.proofread_notes.proofs.Meant.{says-same}
 use Rattle.proofread_voices.specs.Voices.{voiceRun, silent, voiceOk?}
-use Rattle.proofread_staff.proofs.Hearing.{goodItem?, fullIn?, voice-points}
-use Rattle.proofread_staff.proofs.Shuffles.{and-assoc}
+use Rattle.proofread_staff.proofs.Hearing.{and-cross, goodItem?, fullIn?, voice-points}
 
 -- ---- staffs of four voices a bar
 
@@ -61,13 +60,7 @@ by-voices f (bar ∷ st) h =
 both : {A : Type 0} (f g : A → Bool) (xs : List A) → every (λ x. f x && g x) xs ≡ (every f xs && every g xs)
 unfolding every
 both f g [] = refl
-both f g (x ∷ xs) = ap (λ (b : Bool). (f x && g x) && b) (both f g xs) ∙ shuffle (f x) (g x) (every f xs) (every g xs)
-  where
-    shuffle : (a b A B : Bool) → ((a && b) && (A && B)) ≡ ((a && A) && (b && B))
-    shuffle true true A B = refl
-    shuffle true false true B = refl
-    shuffle true false false B = refl
-    shuffle false b A B = refl
+both f g (x ∷ xs) = ap (λ (b : Bool). (f x && g x) && b) (both f g xs) ∙ and-cross (f x) (g x) (every f xs) (every g xs)
 
 every-append : {A : Type 0} (f : A → Bool) (xs ys : List A) → every f (xs ++ ys) ≡ (every f xs && every f ys)
 unfolding every

@@ -1,6 +1,6 @@
 -- The four voices one after the other, and the notes that are found in them.
 use Prim.Native.Nat.{ℕ, zero, suc, _+_, _-_, _*_, _≤_, _<_}
-use mathlib.Core.Bool.{Bool, true, false, not, _&&_, _||_}
+use mathlib.Core.Bool.{Bool, true, false, not, _&&_, _||_, and-false, or-assoc, or-comm, or-false}
 use mathlib.Core.List.{List, [], _∷_, _++_, map, reverse, reverse-cons}
 use mathlib.Core.Path.{_≡_, refl, sym, ap, subst, _∙_}
 use native.Mathlib.Nat.{zero-add, suc-add}
@@ -16,6 +16,7 @@ use Rattle.rules.specs.Items.{Item, Staff, cutBy, byFours, readItems, readStaff
 use Rattle.rules.specs.ProofReader.{voiceTimed, Played, heardAfter, played}
 use Rattle.rules.specs.ProofReaderTests.{noteFound?, right?}
 use Rattle.laws.specs.Sort.{count}
+use Rattle.laws.proofs.Tests.{every-map}
 use Rattle.proofread_notes.specs.Columns.{rawAt, snapAt, notesAt, Same, Marks, hears?, found?, allFound?}
 use Rattle.proofread_notes.proofs.Areas.{same-self, same-then, notes-same}
 use Rattle.proofread_voices.specs.Voices.{voiceRun, silent, voiceOk?, ReadsVoice}
@@ -23,7 +24,6 @@ use Rattle.proofread_voices.proofs.BarItems.{four-cut}
 use Rattle.proofread_staff.specs.Staffs.{rawsAt}
 use Rattle.proofread_staff.proofs.Hearing.{voice-chords}
 use Rattle.proofread_staff.proofs.Points.{Fours, right-by-voices}
-use Rattle.proofread_staff.proofs.Shuffles.{and-false, or-assoc, or-comm, or-none}
 
 -- ---- four voices a bar
 
@@ -50,7 +50,7 @@ unfolding any
 any-reverse f [] = refl
 any-reverse f (x ∷ xs) =
     ap (any f) (reverse-cons x xs) ∙ any-append f (reverse xs) (x ∷ [])
-    ∙ (λ i. any-reverse f xs i || or-none (f x) i) ∙ or-comm (any f xs) (f x)
+    ∙ (λ i. any-reverse f xs i || or-false (f x) i) ∙ or-comm (any f xs) (f x)
 
 four-or : (a b c d : Bool) → (d || (c || (b || (a || false)))) ≡ (a || (b || (c || (d || false))))
 four-or true true true true = refl
@@ -86,11 +86,6 @@ module _ (p : ℕ) (bs : List Bar) (st : Staff) where
       ∙ ap (λ (b : Bool). any f (h 1) || b) (any-append f (h 0) [])))
       ∙ four-or (any f (h 0)) (any f (h 1)) (any f (h 2)) (any f (h 3))
       ∙ sym (λ i. any-reverse f (h 0) i || (any-reverse f (h 1) i || (any-reverse f (h 2) i || (any-reverse f (h 3) i || false))))
-
-every-map : {A B : Type 0} (f : B → Bool) (h : A → B) (xs : List A) → every f (map h xs) ≡ every (λ x. f (h x)) xs
-unfolding every
-every-map f h [] = refl
-every-map f h (x ∷ xs) = ap (λ (b : Bool). f (h x) && b) (every-map f h xs)
 
 every-count : (f g : ℕ → Bool) (k a : ℕ) → ((j : ℕ) → a ≤ j → j < a + k → f j ≡ g j) → every f (count a k) ≡ every g (count a k)
 unfolding every count

@@ -17,7 +17,7 @@ use Rattle.track_events.specs.Track.{eventsOf}
 use Rattle.bar_walk.specs.declared.Walker.{Walker}
 use Rattle.bar_walk.specs.Steps.{nextOf}
 use Rattle.bar_walk.specs.Walk.{trackMeter, firstWalker, AtBar, Settled}
-use Rattle.bar_walk.proofs.WalkLaws.{Walking, walking-start, walking-on, barOf, barsAhead, ahead-all, ahead-last, ahead-more, ahead-end}
+use Rattle.bar_walk.proofs.WalkLaws.{Walking, walking-start, walking-on, barOf, barsAhead, ahead-all, ahead-last, ahead-more, ahead-some, ahead-end}
 use Rattle.laws.proofs.BarLaws.{barAt, bars-last, bars-more}
 use Rattle.laws.proofs.Order.{by-lt}
 use Rattle.proofread_notes.specs.Columns.{notesAt, Same, Before, Marks}
@@ -26,7 +26,7 @@ use Rattle.proofread_items.specs.Playing.{Heard, lastOk?, closedWith, run, tieO
 use Rattle.proofread_items.specs.declared.Voice.{Voice}
 use Rattle.proofread_items.proofs.Reading.{run-failed}
 use Rattle.proofread_voices.specs.Voices.{withOk, voiceRun, silent, voiceOk?, full?, Fits, NewVoice, ReadsBar, EndsVoice, ReadsVoice}
-use Rattle.proofread_voices.proofs.BarItems.{four-cut, four-voice, sum-more, sum-next, sum-part, empty}
+use Rattle.proofread_voices.proofs.BarItems.{four-cut, four-voice, sum-more, sum-next, sum-part}
 use Rattle.proofread_voices.proofs.Steps.{full-is}
 
 -- ---- one bar, over plain lists
@@ -152,7 +152,7 @@ module _ {ds ws : List ℕ} {p end limit : ℕ} {counts hs ks : List ℕ} {g n m
       }
 
   module _ {walker : Walker} {bar first : ℕ} {w : List ℕ} {voice : Voice} (now : Along ds ws p end limit counts hs ks g n m e v w₀ walker bar first w voice) where
-    pub along-end : length counts ≤ 4 * bar → Past ds ws p end limit counts hs ks g n m e v w₀ w voice
+    pub along-end : limit ≤ bar → Past ds ws p end limit counts hs ks g n m e v w₀ w voice
     unfolding voiceRun
     along-end h =
         record {
@@ -164,18 +164,12 @@ module _ {ds ws : List ℕ} {p end limit : ℕ} {counts hs ks : List ℕ} {g n m
           hears =
               λ cs c.
               let x = now .hears cs c in
-              record { closed = x .closed; marks = x .marks; same = rw (none (omega (arith, now .counted))) at (x .same) };
+              record { closed = x .closed; marks = x .marks; same = rw (ahead-end ds ws walker end h) at (x .same) };
         }
-      where
-        none : length (barsAhead ds ws end (limit - bar) walker) ≡ 0 → barsAhead ds ws end (limit - bar) walker ≡ []
-        none e = empty (barsAhead ds ws end (limit - bar) walker) e
 
-    module _ (more : 4 * bar < length counts) where
-      pub some-left : bar < limit
-      some-left = elim (by-lt bar limit) [ inl l ↦ l | inr l ↦ absurd (omega (arith, now .counted, ap length (ahead-end ds ws walker end l))) ]
-
+    module _ (some-left : bar < limit) where
       pub four-left : 4 * bar + 4 ≤ length counts
-      four-left = omega (arith, now .counted)
+      four-left = omega (arith, now .counted, ahead-some (now .walking .bar) end some-left)
 
       -- the items of the voice in the bar lie in the arrays
       pub items-fit : Fits (barsIn limit p (eventsOf ds ws) end) counts hs ks → v < 4 → first + sum (take v (drop (4 * bar) counts)) + getD counts (4 * bar + v) 0 ≤ length hs

@@ -4,10 +4,10 @@ use automation_events::Counts;
 use bars::BarsAnswer;
 use changes::Head;
 use diagnostics::DiagnosticsAnswer;
-use engraver::StaffAnswer;
 use heads::HeadAnswer;
 use heads::PartCountAnswer;
 use heads::PartHeadAnswer;
+use staffs::StaffAnswer;
 
 fn wide(x: u32) -> u64 {
     x as u64

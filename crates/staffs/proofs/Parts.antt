@@ -15,7 +15,7 @@ use Rattle.rules.specs.Staff.{staffOf}
 use Rattle.rules.specs.Voices.{Chord}
 use Rattle.laws.proofs.Refusals.{ticks-per-quarter-positive}
 use Rattle.track_events.specs.Track.{eventsOf, stretch}
-use Rattle.piece.proofs.Ranges.{quarter-fits}
+use Rattle.tracks.proofs.Ranges.{quarter-fits}
 use Rattle.opening.specs.declared.OpenedPart.{OpenedPart}
 use Rattle.opening.specs.Opening.{PartOpened}
 use Rattle.opening.proofs.Opening.{refuses, work-short, work-enough, part-passes, part-admitted, own-track, few-ons}

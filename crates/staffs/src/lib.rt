@@ -62,7 +62,7 @@ fn part_voices(
     }
     let own_deltas = track_events::cut(deltas, opened.from, opened.to);
     let own_words = track_events::cut(words, opened.from, opened.to);
-    let p = piece::ticks_per_quarter(sizes);
+    let p = tracks::ticks_per_quarter(sizes);
     let lens = track_voices(own_deltas, own_words, p, work, most);
     PartVoices {
         number: 0,

@@ -5,8 +5,8 @@ use native.Mathlib.Omega.{arith}
 use borrow.Author.Needs.{needs}
 use lib.ListN.{length}
 use lib.Seq.{length-take-le}
-use Rattle.engraver.specs.Parts.{answerOf}
-use Rattle.agreement.proofs.Together.{turned-back, counts-fit, heads-fit, keys-fit, read-together}
+use Rattle.staffs.specs.Parts.{answerOf}
+use Rattle.agreement.proofs.Together.{engraving-refused, counts-fit, heads-fit, keys-fit, read-together}
 use Rattle.agreement.proofs.engrave_and_read.Statement.{statement}
 use Rattle.agreement.proofs.engrave_and_read.Tie as tie
 
@@ -21,7 +21,7 @@ keys-room : (c : tie.After-struct-known) → 2 * c .before .before .size .given 
 keys-room c = keys-fit _ _ (c .before .before .before .before .before .before .before .before .before .before .before .before .engrave .ensures) _ (ap answerOf (sym (c .before .before .size .given .1)))
 
 returns : tie.Need-returns
-returns c = turned-back _ _ (c .before .before .before .before .before .before .before .before .before .before .before .engrave .ensures) _ (ap answerOf (sym (c .before .number .given .1)))
+returns c = engraving-refused _ _ (c .before .before .before .before .before .before .before .before .before .before .before .engrave .ensures) _ (ap answerOf (sym (c .before .number .given .1)))
 
 returns-2 : tie.Need-returns-2
 returns-2 c = read-together _ _ (c .before .before .before .before .before .before .before .before .before .before .before .before .before .before .before .before .before .before .before .before .engrave .ensures) _ (ap answerOf (sym (c .before .before .before .before .before .before .before .before .before .before .size .given .1))) (c .before .before .proof-read .ensures)

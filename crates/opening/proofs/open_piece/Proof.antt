@@ -1,7 +1,7 @@
 -- `open_piece`: the number that `admission` finds; the counts are taken where it is 0.
 use borrow.Author.Needs.{needs}
 use mathlib.Core.Path.{sym, _∙_}
-use Rattle.piece.proofs.Numbers.{admits}
+use Rattle.admission.proofs.Numbers.{admits}
 use Rattle.opening.proofs.open_piece.Statement.{statement}
 use Rattle.opening.proofs.open_piece.Tie as tie
 

@@ -7,30 +7,24 @@ use borrow.Author.Needs.{needs}
 use Rattle.pages.proofs.bar_length.Statement.{statement}
 use Rattle.pages.proofs.bar_length.Tie as tie
 
--- src/lib.rt:178:9
 returns : tie.Need-returns
 returns c = rw (c .if1 .taken, div-zero)
 
--- src/lib.rt:180:18
 mul-length : tie.Need-mul-length
 mul-length c = search needs
 
--- src/lib.rt:180:18
 mul-length-2 : tie.Need-mul-length-2
 mul-length-2 c = let p = c .before .args .p in
     let m = c .before .args .mark in
     let product : 4 * p * (m % 256) ≤ 262140 * 255 = mul-le-mul {n₂ = 262140} {m₂ = 255} (omega arith) (omega arith) in
     record { fits = omega arith }
 
--- src/lib.rt:180:18
 div-length : tie.Need-div-length
 div-length c = search needs
 
--- src/lib.rt:182:9
 returns-2 : tie.Need-returns-2
 returns-2 c = rw (c .if2 .taken)
 
--- src/lib.rt:172:1
 returns-3 : tie.Need-returns-3
 returns-3 c = sym (max-eq-right (pos-of-ne-zero (c .if2 .left)))
 

@@ -4,19 +4,15 @@ use borrow.Author.Needs.{needs}
 use Rattle.pages.proofs.put_bar.Statement.{statement}
 use Rattle.pages.proofs.put_bar.Tie as tie
 
--- src/lib.rt:291:9
 put-bar-head-requires : tie.Need-put-bar-head-requires
 put-bar-head-requires c κs = search needs
 
--- src/lib.rt:292:5
 put-bar-marks-requires : tie.Need-put-bar-marks-requires
 put-bar-marks-requires c κs = search needs
 
--- src/lib.rt:287:1
 same-length : tie.Need-same-length
 same-length c = search needs
 
--- src/lib.rt:287:1
 returns : tie.Need-returns
 returns c = adds-most (omega arith) (adds-both (c .before .before .before .before .before .before .put-bar-head .ensures) (c .before .before .put-bar-marks .ensures))
 

@@ -6,35 +6,27 @@ use borrow.Author.Needs.{needs}
 use Rattle.pages.proofs.put_bar_head.Statement.{statement}
 use Rattle.pages.proofs.put_bar_head.Tie as tie
 
--- src/lib.rt:265:9
 bar-length-requires : tie.Need-bar-length-requires
 bar-length-requires c κs = search needs
 
--- src/lib.rt:266:31
 slice-aggregate-put-text : tie.Need-slice-aggregate-put-text
 slice-aggregate-put-text c = search needs
 
--- src/lib.rt:266:9
 put-text-requires : tie.Need-put-text-requires
 put-text-requires c κs = search needs
 
--- src/lib.rt:267:9
 put-decimal-requires : tie.Need-put-decimal-requires
 put-decimal-requires c κs = search needs
 
--- src/lib.rt:268:9
 put-next-requires : tie.Need-put-next-requires
 put-next-requires c κs = search needs
 
--- src/lib.rt:269:5
 put-next-requires-2 : tie.Need-put-next-requires-2
 put-next-requires-2 c κs = search needs
 
--- src/lib.rt:261:1
 same-length : tie.Need-same-length
 same-length c = search needs
 
--- src/lib.rt:261:1
 returns : tie.Need-returns
 unfolding barHead
 returns c = (adds-both (adds-both (adds-both (c .before .before .before .before .before .before .before .before .before .before .before .before .before .before .put-text .ensures) (c .before .before .before .before .before .before .before .before .before .before .put-decimal .ensures)) (c .before .before .before .before .before .before .put-next .ensures)) (adds-eq (ap (λ l. 32 ∷ decimal l) (c .before .before .before .before .before .before .before .before .before .before .before .before .before .before .before .before .before .bar-length .ensures)) (c .before .before .put-next2 .ensures)))

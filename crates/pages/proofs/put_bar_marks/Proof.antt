@@ -4,39 +4,30 @@ use borrow.Author.Needs.{needs}
 use Rattle.pages.proofs.put_bar_marks.Statement.{statement}
 use Rattle.pages.proofs.put_bar_marks.Tie as tie
 
--- src/lib.rt:277:9
 put-requires : tie.Need-put-requires
 put-requires c κs = search needs
 
--- src/lib.rt:278:9
 put-meter-requires : tie.Need-put-meter-requires
 put-meter-requires c κs = search needs
 
--- src/lib.rt:279:9
 put-requires-2 : tie.Need-put-requires-2
 put-requires-2 c κs = search needs
 
--- src/lib.rt:280:9
 put-tempo-requires : tie.Need-put-tempo-requires
 put-tempo-requires c κs = search needs
 
--- src/lib.rt:281:9
 put-requires-3 : tie.Need-put-requires-3
 put-requires-3 c κs = search needs
 
--- src/lib.rt:282:9
 put-signature-requires : tie.Need-put-signature-requires
 put-signature-requires c κs = search needs
 
--- src/lib.rt:283:5
 put-requires-4 : tie.Need-put-requires-4
 put-requires-4 c κs = search needs
 
--- src/lib.rt:273:1
 same-length : tie.Need-same-length
 same-length c = search needs
 
--- src/lib.rt:273:1
 returns : tie.Need-returns
 unfolding barMarks
 returns c = (adds-both (adds-both (adds-both (adds-both (c .before .before .before .before .before .before .before .before .before .before .before .before .before .before .before .before .before .before .before .before .before .before .before .before .before .before .put .ensures) (c .before .before .before .before .before .before .before .before .before .before .before .before .before .before .before .before .before .before .before .before .before .before .put-meter .ensures)) (adds-both (c .before .before .before .before .before .before .before .before .before .before .before .before .before .before .before .before .before .before .put2 .ensures) (c .before .before .before .before .before .before .before .before .before .before .before .before .before .before .put-tempo .ensures))) (adds-both (c .before .before .before .before .before .before .before .before .before .before .put3 .ensures) (c .before .before .before .before .before .before .put-signature .ensures))) (c .before .before .put4 .ensures))

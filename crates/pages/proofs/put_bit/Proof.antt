@@ -6,28 +6,22 @@ use borrow.Author.Needs.{needs}
 use Rattle.pages.proofs.put_bit.Statement.{statement}
 use Rattle.pages.proofs.put_bit.Tie as tie
 
--- src/lib.rt:80:9
 shr-if1 : tie.Need-shr-if1
 shr-if1 c = search needs
 
--- src/lib.rt:81:35
 add-put-key : tie.Need-add-put-key
 add-put-key c = search needs
 
--- src/lib.rt:81:9
 put-key-requires : tie.Need-put-key-requires
 put-key-requires c κs = search needs
 
--- src/lib.rt:81:9
 same-length : tie.Need-same-length
 same-length c = search needs
 
--- src/lib.rt:81:9
 returns : tie.Need-returns
 unfolding bitKey
 returns c = (c .before .before .put-key .ensures .0, λ t ks h. rw (eq-eqb _ _ (c .before .before .before .before .if1 .taken)) (c .before .before .put-key .ensures .1 t ks h))
 
--- src/lib.rt:74:1
 returns-2 : tie.Need-returns-2
 unfolding bitKey
 returns-2 c = (omega arith, λ t ks h. rw (ne-eqb _ _ (c .if1 .left), append-nil) h)

@@ -8,28 +8,22 @@ use borrow.Author.Needs.{needs}
 use Rattle.pages.proofs.put_decimal.Statement.{statement}
 use Rattle.pages.proofs.put_decimal.Tie as tie
 
--- src/lib.rt:38:9
 decimal-requires : tie.Need-decimal-requires
 decimal-requires c κs = search needs
 
--- src/lib.rt:39:23
 array-share-prefix-text : tie.Need-array-share-prefix-text
 array-share-prefix-text c = search needs
 
--- src/lib.rt:39:23
 slice-aggregate-put-text : tie.Need-slice-aggregate-put-text
 slice-aggregate-put-text c = search needs
 
--- src/lib.rt:39:5
 put-text-requires : tie.Need-put-text-requires
 put-text-requires c κs = let k : c .before .before .decimal .result ≤ 20 = most-digits _ _ (c .before .before .decimal .ensures .1 .0) (omega arith) in
     omega (arith, c .before .before .decimal .ensures .0 .1)
 
--- src/lib.rt:33:1
 same-length : tie.Need-same-length
 same-length c = search needs
 
--- src/lib.rt:33:1
 returns : tie.Need-returns
 returns c = let d = c .before .before .before .before .before .decimal in
     let a = c .before .before .before .before .before .before .before .before .args in

@@ -6,36 +6,28 @@ use borrow.Author.Needs.{needs}
 use Rattle.pages.proofs.put_fifths.Statement.{statement}
 use Rattle.pages.proofs.put_fifths.Tie as tie
 
--- src/lib.rt:218:13
 put-requires : tie.Need-put-requires
 put-requires c κs = search needs
 
--- src/lib.rt:219:36
 sub-put-decimal : tie.Need-sub-put-decimal
 sub-put-decimal c = search needs
 
--- src/lib.rt:219:9
 put-decimal-requires : tie.Need-put-decimal-requires
 put-decimal-requires c κs = search needs
 
--- src/lib.rt:219:9
 same-length : tie.Need-same-length
 same-length c = search needs
 
--- src/lib.rt:219:9
 returns : tie.Need-returns
 unfolding fifthsText
 returns c = rw (lt-ltb _ _ (c .before .before .before .before .before .before .before .before .if1 .taken)) (adds-both (c .before .before .before .before .before .before .put .ensures) (c .before .before .put-decimal .ensures))
 
--- src/lib.rt:221:5
 put-decimal-requires-2 : tie.Need-put-decimal-requires-2
 put-decimal-requires-2 c κs = search needs
 
--- src/lib.rt:213:1
 same-length-2 : tie.Need-same-length-2
 same-length-2 c = search needs
 
--- src/lib.rt:213:1
 returns-2 : tie.Need-returns-2
 unfolding fifthsText
 returns-2 c = rw (le-ltb _ _ (c .before .before .before .before .if1 .left)) (adds-most (omega arith) (c .before .before .put-decimal2 .ensures))

@@ -4,27 +4,21 @@ use borrow.Author.Needs.{needs}
 use Rattle.pages.proofs.put_item.Statement.{statement}
 use Rattle.pages.proofs.put_item.Tie as tie
 
--- src/lib.rt:163:9
 put-value-requires : tie.Need-put-value-requires
 put-value-requires c κs = search needs
 
--- src/lib.rt:164:9
 put-ties-requires : tie.Need-put-ties-requires
 put-ties-requires c κs = search needs
 
--- src/lib.rt:165:9
 put-sound-requires : tie.Need-put-sound-requires
 put-sound-requires c κs = search needs
 
--- src/lib.rt:166:5
 put-item-end-requires : tie.Need-put-item-end-requires
 put-item-end-requires c κs = search needs
 
--- src/lib.rt:159:1
 same-length : tie.Need-same-length
 same-length c = search needs
 
--- src/lib.rt:159:1
 returns : tie.Need-returns
 returns c = adds-most (omega arith) (adds-both (adds-both (adds-both (c .before .before .before .before .before .before .before .before .before .before .before .before .before .before .put-value .ensures) (c .before .before .before .before .before .before .before .before .before .before .put-ties .ensures)) (c .before .before .before .before .before .before .put-sound .ensures)) (c .before .before .put-item-end .ensures))
 

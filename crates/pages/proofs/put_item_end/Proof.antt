@@ -6,32 +6,25 @@ use borrow.Author.Needs.{needs}
 use Rattle.pages.proofs.put_item_end.Statement.{statement}
 use Rattle.pages.proofs.put_item_end.Tie as tie
 
--- src/lib.rt:121:34
 slice-aggregate-put-text : tie.Need-slice-aggregate-put-text
 slice-aggregate-put-text c = search needs
 
--- src/lib.rt:121:9
 put-text-requires : tie.Need-put-text-requires
 put-text-requires c κs = search needs
 
--- src/lib.rt:121:9
 same-length : tie.Need-same-length
 same-length c = search needs
 
--- src/lib.rt:121:9
 returns : tie.Need-returns
 unfolding itemEnd
 returns c = rw (eq-eqb _ _ (c .before .before .before .before .before .if1 .taken)) (c .before .before .put-text .ensures)
 
--- src/lib.rt:123:5
 put-requires : tie.Need-put-requires
 put-requires c κs = search needs
 
--- src/lib.rt:116:1
 same-length-2 : tie.Need-same-length-2
 same-length-2 c = search needs
 
--- src/lib.rt:116:1
 returns-2 : tie.Need-returns-2
 unfolding itemEnd
 returns-2 c = rw (ne-eqb _ _ (c .before .before .before .before .if1 .left)) (adds-most (omega arith) (c .before .before .put .ensures))

@@ -4,31 +4,24 @@ use borrow.Author.Needs.{needs}
 use Rattle.pages.proofs.put_key.Statement.{statement}
 use Rattle.pages.proofs.put_key.Tie as tie
 
--- src/lib.rt:65:13
 put-decimal-requires : tie.Need-put-decimal-requires
 put-decimal-requires c κs = search needs
 
--- src/lib.rt:66:9
 same-length : tie.Need-same-length
 same-length c = search needs
 
--- src/lib.rt:66:9
 returns : tie.Need-returns
 returns c = (omega (arith, c .before .before .put-decimal .ensures .grown), λ t ks h. key-first t _ ks _ (c .before .before .before .before .if1 .taken) h (c .before .before .put-decimal .ensures))
 
--- src/lib.rt:68:9
 put-requires : tie.Need-put-requires
 put-requires c κs = search needs
 
--- src/lib.rt:69:9
 put-decimal-requires-2 : tie.Need-put-decimal-requires-2
 put-decimal-requires-2 c κs = search needs
 
--- src/lib.rt:58:1
 same-length-2 : tie.Need-same-length-2
 same-length-2 c = search needs
 
--- src/lib.rt:58:1
 returns-2 : tie.Need-returns-2
 returns-2 c = (omega (arith, c .before .before .put-decimal2 .ensures .grown, c .before .before .before .before .before .before .put .ensures .grown), λ t ks h. key-next t _ ks _ (c .before .before .before .before .before .before .before .before .if1 .left) h (adds-both (c .before .before .before .before .before .before .put .ensures) (c .before .before .put-decimal2 .ensures)))
 

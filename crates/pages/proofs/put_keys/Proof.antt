@@ -19,24 +19,19 @@ Inv-loop out₀ word base spot₀ k₀ out spot k = (k ≤ 64) × (length out �
 abbrev μ-loop : tie.MeasureT-loop
 μ-loop out₀ word base spot₀ k₀ out spot k = 64 - k
 
--- src/lib.rt:95:5
 loop-holds : tie.Need-loop-holds Inv-loop μ-loop
 unfolding wordKeys
 loop-holds c = (omega arith, omega arith, omega arith, λ t ks h. rw append-nil h)
 
--- src/lib.rt:96:9
 put-bit-requires : tie.Need-put-bit-requires Inv-loop μ-loop
 put-bit-requires c κs = omega arith
 
--- src/lib.rt:97:9
 add-k : tie.Need-add-k Inv-loop μ-loop
 add-k c = omega arith
 
--- src/lib.rt:95:5
 loop-less : tie.Need-loop-less Inv-loop μ-loop
 loop-less c = omega arith
 
--- src/lib.rt:95:5
 loop-again : tie.Need-loop-again Inv-loop μ-loop
 loop-again c = let l = c .before .before .before .before .before .loop in
     let a = c .before .before .before .before .before .before .before .args in (
@@ -46,11 +41,9 @@ loop-again c = let l = c .before .before .before .before .before .loop in
       λ t ks h. keys-more ks (l .k) (a .word) (a .base) (c .before .before .put-bit .ensures .1 t (ks ++ wordKeys (l .k) (a .word) (a .base)) (l .inv .3 t ks h)),
     )
 
--- src/lib.rt:87:1
 same-length : tie.Need-same-length Inv-loop μ-loop
 same-length c = omega arith
 
--- src/lib.rt:87:1
 returns : tie.Need-returns Inv-loop μ-loop
 returns c = let l = c .before .loop in
     let a = c .before .before .before .args in

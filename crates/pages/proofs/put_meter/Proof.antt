@@ -6,36 +6,28 @@ use borrow.Author.Needs.{needs}
 use Rattle.pages.proofs.put_meter.Statement.{statement}
 use Rattle.pages.proofs.put_meter.Tie as tie
 
--- src/lib.rt:193:13
 put-decimal-requires : tie.Need-put-decimal-requires
 put-decimal-requires c κs = search needs
 
--- src/lib.rt:194:13
 put-requires : tie.Need-put-requires
 put-requires c κs = search needs
 
--- src/lib.rt:195:9
 put-decimal-requires-2 : tie.Need-put-decimal-requires-2
 put-decimal-requires-2 c κs = search needs
 
--- src/lib.rt:195:9
 same-length : tie.Need-same-length
 same-length c = search needs
 
--- src/lib.rt:195:9
 returns : tie.Need-returns
 unfolding meterText
 returns c = rw (eq-eqb _ _ (c .before .before .before .before .before .before .before .before .before .before .before .before .if1 .taken)) (adds-both (c .before .before .before .before .before .before .before .before .before .before .put-decimal .ensures) (adds-both (c .before .before .before .before .before .before .put .ensures) (c .before .before .put-decimal2 .ensures)))
 
--- src/lib.rt:197:5
 put-requires-2 : tie.Need-put-requires-2
 put-requires-2 c κs = search needs
 
--- src/lib.rt:188:1
 same-length-2 : tie.Need-same-length-2
 same-length-2 c = search needs
 
--- src/lib.rt:188:1
 returns-2 : tie.Need-returns-2
 unfolding meterText
 returns-2 c = rw (ne-eqb _ _ (c .before .before .before .before .if1 .left)) (adds-most (omega arith) (c .before .before .put2 .ensures))

@@ -3,19 +3,15 @@ use borrow.Author.Needs.{needs}
 use Rattle.pages.proofs.put_next.Statement.{statement}
 use Rattle.pages.proofs.put_next.Tie as tie
 
--- src/lib.rt:47:9
 put-requires : tie.Need-put-requires
 put-requires c κs = search needs
 
--- src/lib.rt:48:5
 put-decimal-requires : tie.Need-put-decimal-requires
 put-decimal-requires c κs = search needs
 
--- src/lib.rt:43:1
 same-length : tie.Need-same-length
 same-length c = search needs
 
--- src/lib.rt:43:1
 returns : tie.Need-returns
 returns c = adds-both (c .before .before .before .before .before .before .put .ensures) (c .before .before .put-decimal .ensures)
 

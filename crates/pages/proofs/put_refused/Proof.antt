@@ -4,27 +4,21 @@ use borrow.Author.Needs.{needs}
 use Rattle.pages.proofs.put_refused.Statement.{statement}
 use Rattle.pages.proofs.put_refused.Tie as tie
 
--- src/lib.rt:166:31
 slice-aggregate-put-text : tie.Need-slice-aggregate-put-text
 slice-aggregate-put-text c = search needs
 
--- src/lib.rt:166:9
 put-text-requires : tie.Need-put-text-requires
 put-text-requires c κs = search needs
 
--- src/lib.rt:167:9
 put-decimal-requires : tie.Need-put-decimal-requires
 put-decimal-requires c κs = search needs
 
--- src/lib.rt:168:5
 put-requires : tie.Need-put-requires
 put-requires c κs = search needs
 
--- src/lib.rt:162:1
 same-length : tie.Need-same-length
 same-length c = search needs
 
--- src/lib.rt:162:1
 returns : tie.Need-returns
 returns c = adds-most (omega arith) (adds-both (c .before .before .before .before .before .before .before .before .before .before .put-text .ensures) (adds-both (c .before .before .before .before .before .before .put-decimal .ensures) (c .before .before .put .ensures)))
 

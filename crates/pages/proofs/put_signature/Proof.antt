@@ -6,45 +6,35 @@ use borrow.Author.Needs.{needs}
 use Rattle.pages.proofs.put_signature.Statement.{statement}
 use Rattle.pages.proofs.put_signature.Tie as tie
 
--- src/lib.rt:231:9
 put-requires : tie.Need-put-requires
 put-requires c κs = search needs
 
--- src/lib.rt:231:9
 same-length : tie.Need-same-length
 same-length c = search needs
 
--- src/lib.rt:231:9
 returns : tie.Need-returns
 unfolding keyText
 returns c = rw (eq-eqb _ _ (c .before .before .before .before .if1 .taken)) (adds-most (omega arith) (c .before .before .put .ensures))
 
--- src/lib.rt:233:9
 put-fifths-requires : tie.Need-put-fifths-requires
 put-fifths-requires c κs = search needs
 
--- src/lib.rt:235:9
 put-requires-2 : tie.Need-put-requires-2
 put-requires-2 c κs = search needs
 
--- src/lib.rt:235:9
 same-length-2 : tie.Need-same-length-2
 same-length-2 c = search needs
 
--- src/lib.rt:235:9
 returns-2 : tie.Need-returns-2
 unfolding keyText
 returns-2 c = rw (ne-eqb _ _ (c .before .before .before .before .before .before .before .before .before .if1 .left), eq-eqb _ _ (c .before .before .before .before .if2 .taken)) (adds-both (c .before .before .before .before .before .before .before .put-fifths .ensures) (c .before .before .put2 .ensures))
 
--- src/lib.rt:237:5
 put-requires-3 : tie.Need-put-requires-3
 put-requires-3 c κs = search needs
 
--- src/lib.rt:225:1
 same-length-3 : tie.Need-same-length-3
 same-length-3 c = search needs
 
--- src/lib.rt:225:1
 returns-3 : tie.Need-returns-3
 unfolding keyText
 returns-3 c = rw (ne-eqb _ _ (c .before .before .before .before .before .before .before .before .before .if1 .left), ne-eqb _ _ (c .before .before .before .before .if2 .left)) (adds-both (c .before .before .before .before .before .before .before .put-fifths .ensures) (c .before .before .put3 .ensures))

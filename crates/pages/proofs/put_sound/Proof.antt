@@ -8,36 +8,28 @@ use borrow.Author.Needs.{needs}
 use Rattle.pages.proofs.put_sound.Statement.{statement}
 use Rattle.pages.proofs.put_sound.Tie as tie
 
--- src/lib.rt:108:34
 slice-aggregate-put-text : tie.Need-slice-aggregate-put-text
 slice-aggregate-put-text c = search needs
 
--- src/lib.rt:108:9
 put-text-requires : tie.Need-put-text-requires
 put-text-requires c κs = search needs
 
--- src/lib.rt:108:9
 same-length : tie.Need-same-length
 same-length c = search needs
 
--- src/lib.rt:108:9
 returns : tie.Need-returns
 unfolding soundText
 returns c = rw (eq-eqb _ _ (c .before .before .before .before .before .if1 .taken)) (adds-most (omega arith) (c .before .before .put-text .ensures))
 
--- src/lib.rt:110:9
 put-keys-requires : tie.Need-put-keys-requires
 put-keys-requires c κs = search needs
 
--- src/lib.rt:111:9
 put-keys-requires-2 : tie.Need-put-keys-requires-2
 put-keys-requires-2 c κs = search needs
 
--- src/lib.rt:103:1
 same-length-2 : tie.Need-same-length-2
 same-length-2 c = search needs
 
--- src/lib.rt:103:1
 returns-2 : tie.Need-returns-2
 unfolding soundText
 returns-2 c = let a = c .before .before .before .before .before .before .before .before .before .before .args in

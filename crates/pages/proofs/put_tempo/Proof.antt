@@ -6,28 +6,22 @@ use borrow.Author.Needs.{needs}
 use Rattle.pages.proofs.put_tempo.Statement.{statement}
 use Rattle.pages.proofs.put_tempo.Tie as tie
 
--- src/lib.rt:207:9
 put-requires : tie.Need-put-requires
 put-requires c κs = search needs
 
--- src/lib.rt:207:9
 same-length : tie.Need-same-length
 same-length c = search needs
 
--- src/lib.rt:207:9
 returns : tie.Need-returns
 unfolding tempoText
 returns c = rw (eq-eqb _ _ (c .before .before .before .before .if1 .taken)) (adds-most (omega arith) (c .before .before .put .ensures))
 
--- src/lib.rt:209:5
 put-decimal-requires : tie.Need-put-decimal-requires
 put-decimal-requires c κs = search needs
 
--- src/lib.rt:201:1
 same-length-2 : tie.Need-same-length-2
 same-length-2 c = search needs
 
--- src/lib.rt:201:1
 returns-2 : tie.Need-returns-2
 unfolding tempoText
 returns-2 c = rw (ne-eqb _ _ (c .before .before .before .before .if1 .left)) (c .before .before .put-decimal .ensures)

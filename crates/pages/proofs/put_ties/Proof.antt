@@ -4,27 +4,21 @@ use borrow.Author.Needs.{needs}
 use Rattle.pages.proofs.put_ties.Statement.{statement}
 use Rattle.pages.proofs.put_ties.Tie as tie
 
--- src/lib.rt:152:9
 put-requires : tie.Need-put-requires
 put-requires c κs = search needs
 
--- src/lib.rt:153:9
 put-letter-requires : tie.Need-put-letter-requires
 put-letter-requires c κs = search needs
 
--- src/lib.rt:154:9
 put-letter-requires-2 : tie.Need-put-letter-requires-2
 put-letter-requires-2 c κs = search needs
 
--- src/lib.rt:155:5
 put-requires-2 : tie.Need-put-requires-2
 put-requires-2 c κs = search needs
 
--- src/lib.rt:148:1
 same-length : tie.Need-same-length
 same-length c = search needs
 
--- src/lib.rt:148:1
 returns : tie.Need-returns
 unfolding tiesText
 returns c = (adds-both (adds-both (adds-both (c .before .before .before .before .before .before .before .before .before .before .before .before .before .before .put .ensures) (c .before .before .before .before .before .before .before .before .before .before .put-letter .ensures)) (c .before .before .before .before .before .before .put-letter2 .ensures)) (c .before .before .put2 .ensures))

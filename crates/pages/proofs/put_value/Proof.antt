@@ -4,31 +4,24 @@ use borrow.Author.Needs.{needs}
 use Rattle.pages.proofs.put_value.Statement.{statement}
 use Rattle.pages.proofs.put_value.Tie as tie
 
--- src/lib.rt:142:9
 put-decimal-requires : tie.Need-put-decimal-requires
 put-decimal-requires c κs = search needs
 
--- src/lib.rt:143:30
 cast-put-next : tie.Need-cast-put-next
 cast-put-next c = search needs
 
--- src/lib.rt:143:9
 put-next-requires : tie.Need-put-next-requires
 put-next-requires c κs = search needs
 
--- src/lib.rt:144:22
 cast-put-next-2 : tie.Need-cast-put-next-2
 cast-put-next-2 c = search needs
 
--- src/lib.rt:144:5
 put-next-requires-2 : tie.Need-put-next-requires-2
 put-next-requires-2 c κs = search needs
 
--- src/lib.rt:138:1
 same-length : tie.Need-same-length
 same-length c = search needs
 
--- src/lib.rt:138:1
 returns : tie.Need-returns
 unfolding valueText
 returns c = (adds-both (adds-both (c .before .before .before .before .before .before .before .before .before .before .put-decimal .ensures) (c .before .before .before .before .before .before .put-next .ensures)) (c .before .before .put-next2 .ensures))

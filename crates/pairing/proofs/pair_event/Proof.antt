@@ -17,8 +17,8 @@ push-requires c κs =
     let b = note-bounds _ (p .formed) (inl on) in
     let a = c .before .before .before .before .before .before .before .take-apart .ensures in
     record {
-      channel = omega (arith, b .channel, a .a, c .before .before .before .before .before .before .wide .ensures);
-      key = omega (arith, b .first, a .b, c .before .before .before .before .before .wide2 .ensures);
+      channel = omega (arith, b .channel, a .a, c .before .before .before .before .before .before .size .ensures);
+      key = omega (arith, b .first, a .b, c .before .before .before .before .before .size2 .ensures);
       room = p .room on;
       small = p .small;
       held = p .held;
@@ -28,14 +28,14 @@ returns : tie.Need-returns
 returns c x q =
     let on = sym (c .before .before .before .before .before .before .before .is-on .ensures) ∙ c .before .before .before .before .before .before .if1 .taken in
     let a = c .before .before .before .before .before .before .before .before .before .before .take-apart .ensures in
-    stepped-on on (c .before .before .push .ensures (x .pending) _ q (record { channel = sym (c .before .before .before .before .before .before .before .before .before .wide .ensures ∙ a .a); key = sym (c .before .before .before .before .before .before .before .before .wide2 .ensures ∙ a .b); tick = refl; number = refl }))
+    stepped-on on (c .before .before .push .ensures (x .pending) _ q (record { channel = sym (c .before .before .before .before .before .before .before .before .before .size .ensures ∙ a .a); key = sym (c .before .before .before .before .before .before .before .before .size2 .ensures ∙ a .b); tick = refl; number = refl }))
 
 -- an off names a channel and a key
-of-off : (c : tie.Then2) → (c .before .before .before .before .before .wide .result < 16) × (c .before .before .before .before .wide2 .result < 128)
+of-off : (c : tie.Then2) → (c .before .before .before .before .before .size .result < 16) × (c .before .before .before .before .size2 .result < 128)
 of-off c =
     let b = note-bounds _ (c .before .before .before .before .before .before .before .before .pre .formed) (inr (sym (c .before .is-off .ensures) ∙ c .if2 .taken)) in
     let a = c .before .before .before .before .before .before .take-apart .ensures in
-    (omega (arith, b .channel, a .a, c .before .before .before .before .before .wide .ensures), omega (arith, b .first, a .b, c .before .before .before .before .wide2 .ensures))
+    (omega (arith, b .channel, a .a, c .before .before .before .before .before .size .ensures), omega (arith, b .first, a .b, c .before .before .before .before .size2 .ensures))
 
 returns-2 : tie.Need-returns-2
 returns-2 c x q =
@@ -44,7 +44,7 @@ returns-2 c x q =
     let a = c .before .before .before .before .before .before .before .before .take-apart .ensures in
     let b = note-bounds _ (c .before .before .before .before .before .before .before .before .before .before .pre .formed) (inr off) in
     stepped-unmatched on off
-    (queue-empty _ _ (b .channel) (b .first) (rw (c .before .before .before .before .before .before .before .wide .ensures ∙ a .a, c .before .before .before .before .before .before .wide2 .ensures ∙ a .b) at (c .if3 .taken)) q) q
+    (queue-empty _ _ (b .channel) (b .first) (rw (c .before .before .before .before .before .before .before .size .ensures ∙ a .a, c .before .before .before .before .before .before .size2 .ensures ∙ a .b) at (c .if3 .taken)) q) q
 
 pop-requires : tie.Need-pop-requires
 pop-requires c κs =
@@ -57,7 +57,7 @@ returns-3 c x q =
     let on = sym (c .before .before .before .before .before .before .before .before .is-on .ensures) ∙ c .before .before .before .before .before .before .before .if1 .left in
     let off = sym (c .before .before .before .before .before .before .is-off .ensures) ∙ c .before .before .before .before .before .if2 .taken in
     let a = c .before .before .before .before .before .before .before .before .before .before .before .take-apart .ensures in
-    stepped-closed on off (rw (c .before .before .before .before .before .before .before .before .before .before .wide .ensures ∙ a .a, c .before .before .before .before .before .before .before .before .before .wide2 .ensures ∙ a .b) at (c .pop .ensures _ _ _ q))
+    stepped-closed on off (rw (c .before .before .before .before .before .before .before .before .before .before .size .ensures ∙ a .a, c .before .before .before .before .before .before .before .before .before .size2 .ensures ∙ a .b) at (c .pop .ensures _ _ _ q))
 
 returns-4 : tie.Need-returns-4
 returns-4 c x q = stepped-other (sym (c .before .before .before .is-on .ensures) ∙ c .before .before .if1 .left) (sym (c .before .is-off .ensures) ∙ c .if2 .left) q

@@ -15,7 +15,7 @@ returns-2 : tie.Need-returns-2
 returns-2 c ps s q e =
     let p = c .before .before .before .before .before .before .before .before .before .pre in
     let x = c .before .before .before .before .before .before .write-node .ensures in
-    rw (c .before .before .wide .ensures) (pushed-behind (queues-kept (x .same) q) (p .channel) (p .key) (p .room) (p .small) e (x .node) (x .front) (omega arith))
+    rw (c .before .before .size .ensures) (pushed-behind (queues-kept (x .same) q) (p .channel) (p .key) (p .room) (p .small) e (x .node) (x .front) (omega arith))
 
 pub push-spec : {M : Type 1} → statement M
 push-spec =

@@ -3,15 +3,12 @@ use borrow.Author.Needs.{needs}
 use Rattle.piece_text.proofs.ends_number.Statement.{statement}
 use Rattle.piece_text.proofs.ends_number.Tie as tie
 
--- src/lib.rt:63:8
 is-blank-requires : tie.Need-is-blank-requires
 is-blank-requires c κs = search needs
 
--- src/lib.rt:64:9
 returns : tie.Need-returns
 returns c = simp (sym (c .before .is-blank .ensures) ∙ c .if1 .taken)
 
--- src/lib.rt:60:1
 returns-2 : tie.Need-returns-2
 returns-2 c = simp (sym (c .before .is-blank .ensures) ∙ c .if1 .left)
 

@@ -5,32 +5,25 @@ use borrow.Author.Needs.{needs}
 use Rattle.piece_text.proofs.finish.Statement.{statement}
 use Rattle.piece_text.proofs.finish.Tie as tie
 
--- src/lib.rt:308:8
 has-three-lines-requires : tie.Need-has-three-lines-requires
 has-three-lines-requires c κs = search needs
 
--- src/lib.rt:309:28
 store-begun-requires : tie.Need-store-begun-requires
 store-begun-requires c κs = search needs
 
--- src/lib.rt:309:9
 same-length : tie.Need-same-length
 same-length c = search needs
 
--- src/lib.rt:309:9
 same-length-2 : tie.Need-same-length-2
 same-length-2 c = search needs
 
--- src/lib.rt:309:9
 same-length-3 : tie.Need-same-length-3
 same-length-3 c = search needs
 
--- src/lib.rt:309:9
 returns : tie.Need-returns
 unfolding ended Answers
 returns c = λ a h. rw (sym (h .at), sym (c .before .before .before .before .before .before .before .before .before .before .before .has-three-lines .ensures) ∙ c .before .before .before .before .before .before .before .before .before .before .if1 .taken) (c .before .before .before .before .before .before .store-begun .ensures (a .numbers) (h .numbers))
 
--- src/lib.rt:297:1
 returns-2 : tie.Need-returns-2
 unfolding ended Answers
 returns-2 c = λ a h. rw (sym (h .at), sym (c .before .has-three-lines .ensures) ∙ c .if1 .left) tt

@@ -2,15 +2,12 @@ use borrow.Author.Tests.{eq-eqb, ne-eqb}
 use Rattle.piece_text.proofs.is_blank.Statement.{statement}
 use Rattle.piece_text.proofs.is_blank.Tie as tie
 
--- src/lib.rt:52:9
 returns : tie.Need-returns
 returns c = simp (eq-eqb _ _ (c .if1 .taken))
 
--- src/lib.rt:55:9
 returns-2 : tie.Need-returns-2
 returns-2 c = simp (ne-eqb _ _ (c .before .if1 .left), eq-eqb _ _ (c .if2 .taken))
 
--- src/lib.rt:48:1
 returns-3 : tie.Need-returns-3
 returns-3 c = simp (ne-eqb _ _ (c .before .if1 .left), ne-eqb _ _ (c .if2 .left))
 

@@ -1,6 +1,6 @@
 use Rattle.piece_text.proofs.Large.{same-count, other-count}
 use Rattle.piece_text.specs.Held.{mostCounted}
-use Rattle.piece.proofs.Numbers.{agrees, disagrees, number-one, number-two, number-three}
+use Rattle.admission.proofs.Numbers.{agrees, disagrees, number-one, number-two, number-three}
 use Rattle.laws.proofs.Loops.{take-rest}
 use Rattle.rules.specs.Piece.{piece, sizesAgree}
 use Rattle.rules.specs.Lists.{sum}
@@ -14,73 +14,57 @@ use borrow.Author.Needs.{needs}
 use Rattle.piece_text.proofs.large_number.Statement.{statement}
 use Rattle.piece_text.proofs.large_number.Tie as tie
 
--- src/lib.rt:364:9
 returns : tie.Need-returns
 returns c = (omega arith, λ ds ws kd kw. sym (number-one (piece (c .before .before .args .sizes .now) ds ws) (disagrees (piece (c .before .before .args .sizes .now) ds ws) (λ a. omega (arith, a .sizes)))))
 
--- src/lib.rt:366:23
 shared-slice-read-size : tie.Need-shared-slice-read-size
 shared-slice-read-size c = search needs
 
--- src/lib.rt:366:9
 size-requires : tie.Need-size-requires
 size-requires c κs = search needs
 
--- src/lib.rt:368:9
 returns-2 : tie.Need-returns-2
 returns-2 c = (omega arith, λ ds ws kd kw. sym (number-one (piece (c .before .before .before .before .before .args .sizes .now) ds ws) (disagrees (piece (c .before .before .before .before .before .args .sizes .now) ds ws) (λ a. omega (arith, a .tracks, c .before .size .ensures)))))
 
--- src/lib.rt:370:23
 add-if3 : tie.Need-add-if3
 add-if3 c = search needs
 
--- src/lib.rt:371:9
 returns-3 : tie.Need-returns-3
 returns-3 c = (omega arith, λ ds ws kd kw. sym (number-one (piece (c .before .before .before .before .before .before .args .sizes .now) ds ws) (disagrees (piece (c .before .before .before .before .before .before .args .sizes .now) ds ws) (λ a. omega (arith, a .sizes, c .before .before .size .ensures)))))
 
--- src/lib.rt:373:16
 shared-slice-read-if4 : tie.Need-shared-slice-read-if4
 shared-slice-read-if4 c = search needs
 
--- src/lib.rt:374:9
 returns-4 : tie.Need-returns-4
 returns-4 c = (omega arith, λ ds ws kd kw. sym (number-one (piece (c .before .before .before .before .before .before .before .before .args .sizes .now) ds ws) (disagrees (piece (c .before .before .before .before .before .before .before .before .args .sizes .now) ds ws) (λ a. omega (arith, a .division)))))
 
--- src/lib.rt:376:24
 sub-total : tie.Need-sub-total
 sub-total c = search needs
 
--- src/lib.rt:376:24
 part-total-start : tie.Need-part-total-start
 part-total-start c = search needs
 
--- src/lib.rt:376:24
 part-total-end : tie.Need-part-total-end
 part-total-end c = search needs
 
--- src/lib.rt:376:9
 total-requires : tie.Need-total-requires
 total-requires c κs = search needs
 
--- src/lib.rt:378:9
 returns-5 : tie.Need-returns-5
 returns-5 c = let x = c .before .before .before .before .before .before .before .before .before .before .before .args .sizes .now in
     let total : c .before .total .result ≡ sum (drop 2 x) = c .before .total .ensures .0 ∙ ap sum (take-rest 2 x) in
     let small : sum (drop 2 x) < mostCounted = omega (arith, c .before .total .ensures .1, ap length (take-rest 2 x), length-drop 2 x, c .before .before .before .before .before .before .before .size .ensures, c .before .before .before .before .before .if3 .left, c .before .before .before .before .before .before .if2 .left) in
     (omega arith, λ ds ws kd kw. sym (number-one (piece x ds ws) (disagrees (piece x ds ws) (λ a. other-count kd _ small (λ e. c .if5 .taken (e ∙ sym total)) (a .deltas)))))
 
--- src/lib.rt:381:9
 returns-6 : tie.Need-returns-6
 returns-6 c = let x = c .before .before .before .before .before .before .before .before .before .before .before .before .args .sizes .now in
     let total : c .before .before .total .result ≡ sum (drop 2 x) = c .before .before .total .ensures .0 ∙ ap sum (take-rest 2 x) in
     let small : sum (drop 2 x) < mostCounted = omega (arith, c .before .before .total .ensures .1, ap length (take-rest 2 x), length-drop 2 x, c .before .before .before .before .before .before .before .before .size .ensures, c .before .before .before .before .before .before .if3 .left, c .before .before .before .before .before .before .before .if2 .left) in
     (omega arith, λ ds ws kd kw. sym (number-one (piece x ds ws) (disagrees (piece x ds ws) (λ a. other-count kw _ small (λ e. c .if6 .taken (e ∙ sym total)) (a .words)))))
 
--- src/lib.rt:383:8
 shared-slice-read-if7 : tie.Need-shared-slice-read-if7
 shared-slice-read-if7 c = search needs
 
--- src/lib.rt:384:9
 returns-7 : tie.Need-returns-7
 returns-7 c = let x = c .before .before .before .before .before .before .before .before .before .before .before .before .before .before .args .sizes .now in
     let total : c .before .before .before .before .total .result ≡ sum (drop 2 x) = c .before .before .before .before .total .ensures .0 ∙ ap sum (take-rest 2 x) in
@@ -98,7 +82,6 @@ returns-7 c = let x = c .before .before .before .before .before .before .before 
           sym (number-two (piece x ds ws) agree (c .if7 .taken)),
     )
 
--- src/lib.rt:358:1
 returns-8 : tie.Need-returns-8
 returns-8 c = let x = c .before .before .before .before .before .before .before .before .before .before .before .before .before .before .args .sizes .now in
     let total : c .before .before .before .before .total .result ≡ sum (drop 2 x) = c .before .before .before .before .total .ensures .0 ∙ ap sum (take-rest 2 x) in

@@ -13,7 +13,6 @@ use mathlib.Core.Logic.{inl, inr}
 use Rattle.piece_text.proofs.number_due.Statement.{statement}
 use Rattle.piece_text.proofs.number_due.Tie as tie
 
--- src/lib.rt:399:9
 returns : tie.Need-returns
 returns c = (
   λ z. absurd (omega (arith, z)),
@@ -23,15 +22,12 @@ returns c = (
   },
 )
 
--- src/lib.rt:402:29
 slice-aggregate-large-number : tie.Need-slice-aggregate-large-number
 slice-aggregate-large-number c = sym (length-take-le (c .before .before .before .before .before .before .before .args .counts .sizes) (c .before .before .before .before .before .before .before .args .sizes .now) (omega arith))
 
--- src/lib.rt:402:9
 large-number-requires : tie.Need-large-number-requires
 large-number-requires c κs = inl (omega (arith, c .before .if2 .taken))
 
--- src/lib.rt:402:9
 returns-2 : tie.Need-returns-2
 returns-2 c = let a = c .before .before .before .before .before .before .before .before .args in (
   λ z. absurd (omega (arith, z, c .large-number .ensures .0)),
@@ -42,15 +38,12 @@ returns-2 c = let a = c .before .before .before .before .before .before .before 
   },
 )
 
--- src/lib.rt:405:29
 slice-aggregate-large-number-2 : tie.Need-slice-aggregate-large-number-2
 slice-aggregate-large-number-2 c = sym (length-take-le (c .before .before .before .before .before .before .before .before .before .args .counts .sizes) (c .before .before .before .before .before .before .before .before .before .args .sizes .now) (omega arith))
 
--- src/lib.rt:405:9
 large-number-requires-2 : tie.Need-large-number-requires-2
 large-number-requires-2 c κs = inr (omega (arith, c .before .if3 .taken))
 
--- src/lib.rt:405:9
 returns-3 : tie.Need-returns-3
 returns-3 c = let a = c .before .before .before .before .before .before .before .before .before .before .args in (
   λ z. absurd (omega (arith, z, c .large-number2 .ensures .0)),
@@ -61,7 +54,6 @@ returns-3 c = let a = c .before .before .before .before .before .before .before 
   },
 )
 
--- src/lib.rt:391:1
 returns-4 : tie.Need-returns-4
 returns-4 c = let a = c .before .before .before .before .before .before .before .before .args in
     let fs : a .counts .sizes ≤ length (a .sizes .now) = omega (arith, c .before .before .before .before .if1 .left) in

@@ -17,28 +17,22 @@ Inv-loop bytes sizes₀ deltas₀ words₀ state₀ i₀ sizes deltas words stat
 abbrev μ-loop : tie.MeasureT-loop
 μ-loop bytes sizes₀ deltas₀ words₀ state₀ i₀ sizes deltas words state i = length bytes - i
 
--- src/lib.rt:289:5
 loop-holds : tie.Need-loop-holds Inv-loop μ-loop
 unfolding readOn
 loop-holds c = (omega arith, omega arith, omega arith, omega arith, λ a h. h)
 
--- src/lib.rt:290:29
 shared-slice-read-step : tie.Need-shared-slice-read-step Inv-loop μ-loop
 shared-slice-read-step c = omega arith
 
--- src/lib.rt:290:9
 step-requires : tie.Need-step-requires Inv-loop μ-loop
 step-requires c κs = tt
 
--- src/lib.rt:291:9
 add-i : tie.Need-add-i Inv-loop μ-loop
 add-i c = omega arith
 
--- src/lib.rt:289:5
 loop-less : tie.Need-loop-less Inv-loop μ-loop
 loop-less c = omega arith
 
--- src/lib.rt:289:5
 loop-again : tie.Need-loop-again Inv-loop μ-loop
 loop-again c = let l = c .before .before .before .before .before .before .before .before .before .before .before .before .loop in
     let k = c .before .before .before .before .before .before .step .kept in (
@@ -49,19 +43,15 @@ loop-again c = let l = c .before .before .before .before .before .before .before
       λ a h. rw (read-one a (c .before .before .before .before .before .before .before .before .before .before .before .before .before .before .before .before .before .args .bytes .now) (l .i) (c .before .before .before .before .before .before .before .before .before .before .before .loop-test .taken)) (c .before .before .before .before .before .before .step .ensures _ (l .inv .4 a h)),
     )
 
--- src/lib.rt:277:1
 same-length : tie.Need-same-length Inv-loop μ-loop
 same-length c = omega arith
 
--- src/lib.rt:277:1
 same-length-2 : tie.Need-same-length-2 Inv-loop μ-loop
 same-length-2 c = omega arith
 
--- src/lib.rt:277:1
 same-length-3 : tie.Need-same-length-3 Inv-loop μ-loop
 same-length-3 c = omega arith
 
--- src/lib.rt:277:1
 returns : tie.Need-returns Inv-loop μ-loop
 returns c = λ a h. rw (take-all (c .before .loop .i) (c .before .before .before .before .before .before .args .bytes .now) (omega arith)) at (c .before .loop .inv .4 a h)
 

@@ -2,31 +2,24 @@ use borrow.Author.Needs.{needs}
 use Rattle.piece_text.proofs.read_text.Statement.{statement}
 use Rattle.piece_text.proofs.read_text.Tie as tie
 
--- src/lib.rt:324:29
 start-requires : tie.Need-start-requires
 start-requires c κs = search needs
 
--- src/lib.rt:324:9
 read-bytes-requires : tie.Need-read-bytes-requires
 read-bytes-requires c κs = search needs
 
--- src/lib.rt:325:5
 finish-requires : tie.Need-finish-requires
 finish-requires c κs = search needs
 
--- src/lib.rt:316:1
 same-length : tie.Need-same-length
 same-length c = search needs
 
--- src/lib.rt:316:1
 same-length-2 : tie.Need-same-length-2
 same-length-2 c = search needs
 
--- src/lib.rt:316:1
 same-length-3 : tie.Need-same-length-3
 same-length-3 c = search needs
 
--- src/lib.rt:316:1
 returns : tie.Need-returns
 returns c = c .before .before .before .before .before .before .finish .ensures _ (c .before .before .before .before .before .before .before .before .before .before .before .before .before .before .before .before .read-bytes .ensures _ (c .before .before .before .before .before .before .before .before .before .before .before .before .before .before .before .before .before .before .before .before .start .ensures _ _ _))
 

@@ -3,7 +3,6 @@ use mathlib.Core.Path.{refl}
 use Rattle.piece_text.proofs.start.Statement.{statement}
 use Rattle.piece_text.proofs.start.Tie as tie
 
--- src/lib.rt:257:1
 returns : tie.Need-returns
 returns c = λ ss ds ws. record { at = refl; numbers = record { sizes = none-held ss; deltas = none-held ds; words = none-held ws } }
 

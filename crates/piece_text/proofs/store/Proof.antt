@@ -3,35 +3,27 @@ use borrow.Author.Needs.{needs}
 use Rattle.piece_text.proofs.store.Statement.{statement}
 use Rattle.piece_text.proofs.store.Tie as tie
 
--- src/lib.rt:168:9
 returns : tie.Need-returns
 returns c = λ l h. held-full l _ _ _ h (c .if1 .taken)
 
--- src/lib.rt:171:9
 mul-xs : tie.Need-mul-xs
 mul-xs c = search needs
 
--- src/lib.rt:171:9
 slice-write-xs : tie.Need-slice-write-xs
 slice-write-xs c = search needs
 
--- src/lib.rt:172:16
 add-result : tie.Need-add-result
 add-result c = search needs
 
--- src/lib.rt:172:9
 same-length : tie.Need-same-length
 same-length c = search needs
 
--- src/lib.rt:172:9
 returns-2 : tie.Need-returns-2
 returns-2 c = λ l h. held-stored l _ _ _ h (c .before .if1 .left) (c .if2 .taken)
 
--- src/lib.rt:174:5
 add-result-2 : tie.Need-add-result-2
 add-result-2 c = search needs
 
--- src/lib.rt:164:1
 returns-3 : tie.Need-returns-3
 returns-3 c = λ l h. held-counted l _ _ _ h (c .before .if1 .left) (c .if2 .left)
 

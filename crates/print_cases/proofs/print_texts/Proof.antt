@@ -11,55 +11,42 @@ Inv-loop texts from₀ t4 from = (from ≤ length texts) × (length t4 ≡ 2)
 abbrev μ-loop : tie.MeasureT-loop
 μ-loop texts from₀ t4 from = length texts - from
 
--- src/main.rt:24:5
 loop-holds : tie.Need-loop-holds Inv-loop μ-loop
 loop-holds c = omega arith
 
--- src/main.rt:25:13
 end-of-requires : tie.Need-end-of-requires Inv-loop μ-loop
 end-of-requires c κs = omega arith
 
--- src/main.rt:26:29
 sub-print-text : tie.Need-sub-print-text Inv-loop μ-loop
 sub-print-text c = omega arith
 
--- src/main.rt:26:29
 part-print-text-start : tie.Need-part-print-text-start Inv-loop μ-loop
 part-print-text-start c = omega arith
 
--- src/main.rt:26:29
 part-print-text-end : tie.Need-part-print-text-end Inv-loop μ-loop
 part-print-text-end c = omega arith
 
--- src/main.rt:26:9
 print-text-requires : tie.Need-print-text-requires Inv-loop μ-loop
 print-text-requires c κs = tt
 
--- src/main.rt:27:44
 slice-aggregate-write-all : tie.Need-slice-aggregate-write-all Inv-loop μ-loop
 slice-aggregate-write-all c = omega arith
 
--- src/main.rt:27:9
 write-all-requires : tie.Need-write-all-requires Inv-loop μ-loop
 write-all-requires c κs = tt
 
--- src/main.rt:29:13
 returns : tie.Need-returns Inv-loop μ-loop
 returns c = tt
 
--- src/main.rt:31:16
 add-from : tie.Need-add-from Inv-loop μ-loop
 add-from c = omega arith
 
--- src/main.rt:24:5
 loop-less : tie.Need-loop-less Inv-loop μ-loop
 loop-less c = omega arith
 
--- src/main.rt:24:5
 loop-again : tie.Need-loop-again Inv-loop μ-loop
 loop-again c = omega arith
 
--- src/main.rt:22:1
 returns-2 : tie.Need-returns-2 Inv-loop μ-loop
 returns-2 c = tt
 

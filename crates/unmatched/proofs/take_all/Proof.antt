@@ -2,7 +2,8 @@
 use mathlib.Core.Path.{refl, _∙_}
 use native.Mathlib.Omega.{arith}
 use Rattle.findings.proofs.Putting.{places-kept, details-kept}
-use Rattle.unmatched.proofs.Taking.{Reach, taking-start, taking-waits, taken-packs, taking-more, taking-end}
+use Rattle.pairing.proofs.Taking.{taking-waits}
+use Rattle.unmatched.proofs.Taking.{Reach, puts-start, taken-packs, puts-more, puts-end}
 use Rattle.unmatched.proofs.take_all.Statement.{statement}
 use Rattle.unmatched.proofs.take_all.Tie as tie
 
@@ -14,12 +15,12 @@ abbrev μ-loop : tie.MeasureT-loop
 μ-loop heads₀ work n waiting track at places₀ details₀ next₀ left₀ from₀ heads places details next left from = left
 
 loop-holds : tie.Need-loop-holds Inv-loop μ-loop
-loop-holds c = record { few = refl; places = refl; details = refl; reach = λ t m x p. taking-start _ _ _ _ p }
+loop-holds c = record { few = refl; places = refl; details = refl; reach = λ t m x p. puts-start _ _ _ _ p }
 
 take-pending-requires : tie.Need-take-pending-requires Inv-loop μ-loop
 take-pending-requires c κs =
     let o = c .before .before .before .before .before .before .pre in
-    taking-waits (c .before .before .loop .inv .reach (o .tails) (o .count) (o .x) (o .pairs)) (omega arith)
+    taking-waits (c .before .before .loop .inv .reach (o .tails) (o .count) (o .x) (o .pairs) .taking) (omega arith)
 
 put-requires : tie.Need-put-requires Inv-loop μ-loop
 put-requires c κs =
@@ -27,7 +28,7 @@ put-requires c κs =
     let inv = c .before .before .before .before .before .before .loop .inv in
     let p = inv .reach (o .tails) (o .count) (o .x) (o .pairs) in
     rw (c .unmatched-on .ensures)
-    (taken-packs p (c .before .before .before .take-pending .ensures (o .tails) _ _ (p .queues) (p .later)) (o .numbered), omega (arith, inv .few, o .room))
+    (taken-packs p (c .before .before .before .take-pending .ensures (o .tails) _ _ (p .taking .queues) (p .taking .later)) (o .numbered), omega (arith, inv .few, o .room))
 
 loop-again : tie.Need-loop-again Inv-loop μ-loop
 loop-again c =
@@ -39,7 +40,7 @@ loop-again c =
       details = details-kept put ∙ inv .details;
       reach = λ t m x y.
           let p = inv .reach t m x y in
-          taking-more p (c .before .before .before .before .before .before .before .before .take-pending .ensures t m _ (p .queues) (p .later)) (rw (c .before .before .before .before .before .unmatched-on .ensures) at put);
+          puts-more p (c .before .before .before .before .before .before .before .before .take-pending .ensures t m _ (p .taking .queues) (p .taking .later)) (rw (c .before .before .before .before .before .unmatched-on .ensures) at put);
     }
 
 pub take-all-spec : {M : Type 1} → statement M
@@ -57,4 +58,4 @@ take-all-spec =
     loop-again
     (λ c. c .before .loop .inv .places)
     (λ c. c .before .loop .inv .details)
-    (λ c t m x p. taking-end (c .before .loop .inv .reach t m x p) (omega arith)))
+    (λ c t m x p. puts-end (c .before .loop .inv .reach t m x p) (omega arith)))

@@ -3,19 +3,15 @@ use borrow.Author.Needs.{needs}
 use Rattle.piece_text.proofs.Place.has_three_lines.Statement.{statement}
 use Rattle.piece_text.proofs.Place.has_three_lines.Tie as tie
 
--- src/lib.rt:148:13
 returns : tie.Need-returns
 returns c = search needs
 
--- src/lib.rt:151:13
 returns-2 : tie.Need-returns-2
 returns-2 c = simp (c .before .before .if1 .left, eq-eqb _ _ (c .if2 .taken))
 
--- src/lib.rt:154:13
 returns-3 : tie.Need-returns-3
 returns-3 c = simp (c .before .before .before .before .if1 .left, ne-eqb _ _ (c .before .before .if2 .left), eq-eqb _ _ (c .if3 .taken))
 
--- src/lib.rt:144:5
 returns-4 : tie.Need-returns-4
 returns-4 c = simp (c .before .before .before .before .if1 .left, ne-eqb _ _ (c .before .before .if2 .left), ne-eqb _ _ (c .if3 .left))
 
