@@ -1,23 +1,22 @@
 -- A table of lengths read as values, entry by entry: to split a span by those from entry 0 on is section 6's split.
 use Prim.Native.Nat.{ℕ, _+_, _-_, _/_, _%_, _<_, _≤_}
 use mathlib.Core.Bool.{Bool, true, false, cond, _&&_}
-use mathlib.Core.List.{List, [], _∷_, _++_, flatMap, map, head?}
+use mathlib.Core.List.{List, [], _∷_, _++_, flatMap, map}
 use mathlib.Core.Logic.{inl, inr}
-use mathlib.Core.Option.{Option, none, some}
+use mathlib.Core.Option.{none}
 use mathlib.Core.Path.{_≡_, refl, sym, ap, _∙_}
 use native.Mathlib.Nat.{div-zero, mod-zero, div-add-mod', le-mul-of-pos-right}
 use native.Mathlib.Omega.{arith}
 use borrow.Author.Tests.{leb-true, leb-false, lt-ltb, le-ltb}
 use lib.Dec.{ltb, leb}
 use lib.ListN.{length, getD, replicate, length-append, length-replicate}
-use Rattle.rules.specs.Lists.{keep, All}
-use Rattle.rules.specs.Values.{Value, value, values, isWhole, staffCodes, longest, splitSpan}
+use Rattle.rules.specs.Lists.{keep}
+use Rattle.rules.specs.Values.{Value, value, values, isWhole, staffCodes, splitSpan}
 use Rattle.laws.specs.Ladder.{split}
 use Rattle.laws.specs.Sort.{count}
 use Rattle.laws.proofs.Order.{by-bool, by-lt}
 use Rattle.laws.proofs.Sort.{count-none, count-cons}
 use Rattle.laws.proofs.Splits.{split-zero, split-literal, split-fits, split-over}
-use Rattle.laws.proofs.Values.{values-long}
 use Rattle.values.specs.Table.{tableOf, entry}
 
 -- the pieces of t ticks by the entries from i on

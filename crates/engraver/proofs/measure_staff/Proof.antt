@@ -1,5 +1,4 @@
 -- `measure_staff`: the staff is counted, and no output is written.
-use native.Mathlib.Omega.{arith}
 use borrow.Author.Needs.{needs}
 use Rattle.engraver.proofs.Outcomes.{no-room}
 use Rattle.engraver.proofs.Tables.{quarter-is, table-is}

@@ -27,10 +27,13 @@ module _ (c : tie.Start) where
 
 -- what the test says of the staff's size
 room : (c : tie.After-has-room) → let o = c .before .before .before .before .before .before .before .before in
-    roomFor (sizeBy (o .args .p) (bs o) (vs o)) (length (o .args .counts .now)) (length (o .args .heads .now)) (length (o .args .keys .now)) ≡ c .has-room .result
+    roomFor (sizeBy (o .args .p) (bs o) (vs o)) (length (o .args .counts .now)) (length (o .args .heads .now)) (length (o .args .keys .now))
+    ≡ c .has-room .result
 room c =
     let o = c .before .before .before .before .before .before .before .before in
-    sym (ap (λ (s : StaffSize). roomFor s (length (o .args .counts .now)) (length (o .args .heads .now)) (length (o .args .keys .now))) (c .before .measure-staff .ensures))
+    sym
+    (ap (λ (s : StaffSize). roomFor s (length (o .args .counts .now)) (length (o .args .heads .now)) (length (o .args .keys .now)))
+    (c .before .measure-staff .ensures))
     ∙ sym (c .has-room .ensures)
 
 transcribe-track-requires : tie.Need-transcribe-track-requires

@@ -1,13 +1,18 @@
 -- `engrave`: the part's number, or the staff of its voices, where the outputs have room; the work area is zeroed on every path.
 use Prim.Native.Nat.{ℕ}
 use mathlib.Core.Path.{ap, _∙_}
-use native.Mathlib.Omega.{arith}
 use borrow.Author.Needs.{needs}
 use lib.ListN.{replicate}
-use Rattle.bar_source.proofs.Sources.{positive, walked}
-use Rattle.staffs.proofs.Parts.{staff-given, staff-called, staff-refused}
+use Rattle.opening.proofs.Opening.{cut-deltas, cut-words}
+use Rattle.staffs.proofs.Parts.{can-engrave, staff-given, staff-called, staff-refused}
 use Rattle.staffs.proofs.engrave.Statement.{statement}
 use Rattle.staffs.proofs.engrave.Tie as tie
+
+same-length : tie.Need-same-length
+same-length c =
+    let at-clear = c .before .before in
+    let at-if1 = at-clear .before .before in
+    at-clear .clear .kept .0 ∙ at-if1 .before .before .before .before .part-voices .kept .1 .1 .1 .1 .0
 
 returns : tie.Need-returns
 returns c =
@@ -25,13 +30,26 @@ write-staff-requires c κs =
     let at-cut2 = c .before .before .before .before .before in
     let at-source = at-cut2 .before .before in
     let at-if1 = at-source .before in
-    let ready = at-if1 .before .before .before .before .part-voices .ensures .ready (at-if1 .if1 .left) in
-    let source = at-source .bar-source .ensures in (
-      rw (at-cut2 .before .cut .ensures, at-cut2 .cut2 .ensures) (walked _ (ready .known) source),
-      positive _ (ready .known) source,
-      omega arith,
-      ready .voices .held,
-    )
+    can-engrave (at-if1 .before .before .before .before .part-voices .ensures .ready (at-if1 .if1 .left)) (at-source .bar-source .ensures)
+    (at-cut2 .before .cut .ensures) (at-cut2 .cut2 .ensures)
+
+same-length-2 : tie.Need-same-length-2
+same-length-2 c =
+    let at-clear = c .before .before .before in
+    let at-staff = at-clear .before .before .before .before .before .before .before .before in
+    at-staff .write-staff .kept .1 .1 .1 .1 .1 .1 .1 .1 .0
+
+same-length-3 : tie.Need-same-length-3
+same-length-3 c =
+    let at-clear = c .before .before .before in
+    let at-staff = at-clear .before .before .before .before .before .before .before .before in
+    at-staff .write-staff .kept .1 .1 .1 .1 .1 .1 .1 .1 .1 .0
+
+same-length-4 : tie.Need-same-length-4
+same-length-4 c =
+    let at-clear = c .before .before .before in
+    let at-staff = at-clear .before .before .before .before .before .before .before .before in
+    at-staff .write-staff .kept .1 .1 .1 .1 .1 .1 .1 .1 .1 .1 .0
 
 same-length-5 : tie.Need-same-length-5
 same-length-5 c =
@@ -48,10 +66,10 @@ returns-2 c =
     let at-source = at-cut2 .before .before in
     let at-if1 = at-source .before in
     let voices = at-if1 .before .before .before .before .part-voices in
-    let staff = rw (at-cut2 .before .cut .ensures, at-cut2 .cut2 .ensures) at (at-staff .write-staff .ensures) in
     rw (c .answer .ensures)
     (staff-called (at-clear .clear2 .ensures ∙ ap (λ (n : ℕ). replicate n 0) (voices .kept .1 .1 .1 .1 .0))
-    (staff-given (voices .ensures .ready (at-if1 .if1 .left)) (at-source .bar-source .ensures) staff))
+    (staff-given (voices .ensures .ready (at-if1 .if1 .left)) (at-source .bar-source .ensures) (at-cut2 .before .cut .ensures) (at-cut2 .cut2 .ensures)
+    (at-staff .write-staff .ensures)))
 
 pub engrave-spec : {M : Type 1} → statement M
 engrave-spec =
@@ -59,16 +77,16 @@ engrave-spec =
     (tie.spec
     (λ c κs. search needs)
     (λ c κs. search needs)
-    (λ c. search needs)
+    same-length
     returns
     bar-source-requires
-    (λ c κs. search needs)
-    (λ c κs. search needs)
+    (λ c κs. cut-deltas (c .bar-source .ensures .first))
+    (λ c κs. cut-words (c .before .bar-source .ensures .first))
     write-staff-requires
     (λ c κs. search needs)
     (λ c κs. search needs)
-    (λ c. search needs)
-    (λ c. search needs)
-    (λ c. search needs)
+    same-length-2
+    same-length-3
+    same-length-4
     same-length-5
     returns-2)

@@ -34,22 +34,18 @@ track-voices-requires c κs =
     let at-cut2 = c .before .before in
     let at-if2 = at-cut2 .before .before in
     let at-if1 = at-if2 .before .before in
-    rw (at-cut2 .before .cut .ensures, at-cut2 .cut2 .ensures)
-    (tracked _ _ (at-if1 .before .before .open-part .ensures) (at-if1 .if1 .left) (c .before .ticks-per-quarter .ensures)
-    (rw (at-if2 .before .work-for .ensures) at (at-if2 .if2 .left)))
+    tracked _ _ (at-if1 .before .before .open-part .ensures) (at-if1 .if1 .left) (at-cut2 .before .cut .ensures) (at-cut2 .cut2 .ensures)
+    (c .before .ticks-per-quarter .ensures) (rw (at-if2 .before .work-for .ensures) at (at-if2 .if2 .left)) refl
 
 returns-3 : tie.Need-returns-3
 returns-3 c =
     let at-voices = c .before .before in
-    let at-quarter = at-voices .before .before in
-    let at-cut2 = at-quarter .before in
+    let at-cut2 = at-voices .before .before .before in
     let at-if2 = at-cut2 .before .before in
     let at-if1 = at-if2 .before .before in
-    let opened = at-if1 .before .before .open-part .ensures in
-    let voices =
-    rw (at-quarter .ticks-per-quarter .ensures, at-cut2 .before .cut .ensures, at-cut2 .cut2 .ensures, opened .own (at-if1 .if1 .left) .events) at
-    (at-voices .track-voices .ensures) in
-    voiced _ _ opened (at-if1 .if1 .left) (rw (at-if2 .before .work-for .ensures) at (at-if2 .if2 .left)) refl voices refl
+    voiced _ _ (at-if1 .before .before .open-part .ensures) (at-if1 .if1 .left) (at-cut2 .before .cut .ensures) (at-cut2 .cut2 .ensures)
+    (at-voices .before .before .ticks-per-quarter .ensures) (rw (at-if2 .before .work-for .ensures) at (at-if2 .if2 .left)) refl refl
+    (at-voices .track-voices .ensures)
 
 pub part-voices-spec : {M : Type 1} → statement M
 part-voices-spec =
@@ -63,5 +59,5 @@ part-voices-spec =
     cut-requires-2
     (λ c κs. search needs)
     track-voices-requires
-    (λ c. search needs)
+    (λ c. c .before .before .track-voices .kept .1 .1 .1 .0)
     returns-3)

@@ -8,10 +8,11 @@ use Rattle.staffs.proofs.track_voices.Tie as tie
 
 assign-voices-requires : tie.Need-assign-voices-requires
 assign-voices-requires c κs =
-    let pre = c .before .before .before .before .before .before .before .before .before .pre in
-    let ready = notes-ready (pre .track) (c .before .before .before .before .collect-raw-notes .ensures) in
+    let at-notes = c .before .before .before .before in
+    let pre = at-notes .before .before .before .before .before .pre in
+    let ready = notes-ready (pre .track) (at-notes .collect-raw-notes .ensures) in
     rw (c .before .grid-ticks .ensures) (
-      omega (arith, pre .area, c .before .before .before .before .collect-raw-notes .kept .1 .1 .0),
+      omega (arith, pre .area, at-notes .collect-raw-notes .kept .1 .1 .0),
       grid-some _ _,
       grid-small _ _ (pre .small),
       record { notes = _; stand = ready .0; in-range = ready .1 },
@@ -19,12 +20,14 @@ assign-voices-requires c κs =
 
 returns : tie.Need-returns
 returns c =
-    let pre = c .before .before .before .before .before .before .before .before .before .before .before .before .before .pre in
-    let given = c .before .before .before .before .before .before .before .before .before .before .before .before .before .args in
-    let ready = notes-ready (pre .track) (c .before .before .before .before .before .before .before .before .collect-raw-notes .ensures) in
-    let spread = rw (c .before .before .before .before .before .grid-ticks .ensures) at (c .before .before .before .assign-voices .ensures _ (ready .0) (ready .1)) in
-    let kept = c .before .before .before .before .before .before .before .before .collect-raw-notes .kept .1 .1 .0 in
-    let kept-too = c .before .before .before .assign-voices .kept .0 in
+    let at-voices = c .before .before .before in
+    let at-grid = at-voices .before .before in
+    let at-notes = at-grid .before .before .before in
+    let pre = at-notes .before .before .before .before .before .pre in
+    let ready = notes-ready (pre .track) (at-notes .collect-raw-notes .ensures) in
+    let spread = rw (at-grid .grid-ticks .ensures) at (at-voices .assign-voices .ensures _ (ready .0) (ready .1)) in
+    let kept = at-notes .collect-raw-notes .kept .1 .1 .0 in
+    let kept-too = at-voices .assign-voices .kept .0 in
     record {
       held = voices-held _ _ spread (omega (arith, pre .area)) (grid-some _ _);
       are = voices-same _ _ spread (omega (arith, pre .area));
