@@ -41,7 +41,10 @@ module _ (x : Piece) (known : Admitted x) where
         → FoundIn (offMeasureFound x) (length (x .deltas)) at p₀ d₀ next p₁ d₁
     off-found {p} {l} e f q =
         record {
-          found = found-as (ap (λ (m : ℕ). foundOf (OffMeasure m) 0 (eventsOf ds ws)) long ∙ ap (foundOf (OffMeasure (anyMeterLength x)) 0) (span .events)) (q .found);
+          found =
+              found-as
+              (ap (λ (m : ℕ). foundOf (OffMeasure m) 0 (eventsOf ds ws)) long ∙ ap (foundOf (OffMeasure (anyMeterLength x)) 0) (span .events))
+              (q .found);
           few = omega (arith, q .few, length-stretch (r .from) (r .to) (x .deltas) (span .order) (span .deltas), span .deltas);
         }
       where

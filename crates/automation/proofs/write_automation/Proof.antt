@@ -14,14 +14,13 @@ few : (c : tie.After-count-automation) → AtMost mostEvents (c .count-automatio
 few c = counts-few (c .before .before .before .before .before .before .pre .0) (c .count-automation .ensures)
 
 add-all : tie.Need-add-all
-add-all c = omega (arith, few (c .before) .each Bend, few (c .before) .each Controller)
+add-all c = let each = few (c .before) .each in omega (arith, each Bend, each Controller)
 
 add-all-2 : tie.Need-add-all-2
-add-all-2 c = omega (arith, few (c .before .before) .each Bend, few (c .before .before) .each Controller, few (c .before .before) .each Program)
+add-all-2 c = let each = few (c .before .before) .each in omega (arith, each Bend, each Controller, each Program)
 
 add-all-3 : tie.Need-add-all-3
-add-all-3 c =
-    omega (arith, few (c .before .before .before) .each Bend, few (c .before .before .before) .each Controller, few (c .before .before .before) .each Program, few (c .before .before .before) .each Pressure)
+add-all-3 c = let each = few (c .before .before .before) .each in omega (arith, each Bend, each Controller, each Program, each Pressure)
 
 returns : tie.Need-returns
 returns c = ticks-short _ _ _ _ _ (c .before .before .before .before .count-automation .ensures) (c .if1 .taken)

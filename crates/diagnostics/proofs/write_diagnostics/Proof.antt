@@ -23,7 +23,10 @@ returns-2 c =
     work-refused _ _ _ _ (at-if1 .before .before .open-piece .ensures) (at-if1 .if1 .left) (omega (arith, c .if2 .taken, c .before .work-for .ensures))
 
 -- the work area has room
-enough : (c : tie.Else2) → let at-open = c .before .before .before .before in workFor (at-open .open-piece .result .most) ≤ length (at-open .before .before .before .before .before .before .before .args .work .now)
+enough : (c : tie.Else2)
+    → let at-open = c .before .before .before .before in
+    let start = at-open .before .before .before .before .before .before .before in
+    workFor (at-open .open-piece .result .most) ≤ length (start .args .work .now)
 enough c = omega (arith, c .if2 .left, c .before .work-for .ensures)
 
 count-diagnostics-requires : tie.Need-count-diagnostics-requires

@@ -7,19 +7,21 @@ use Rattle.loss_diagnostics.proofs.find_all.Statement.{statement}
 use Rattle.loss_diagnostics.proofs.find_all.Tie as tie
 
 find-timecode-requires : tie.Need-find-timecode-requires
-find-timecode-requires c κs = omega (arith, sizes-agree _ (c .before .before .before .before .before .before .before .before .pre .admitted .sizes) .sizes)
+find-timecode-requires c κs = let start = c .before .before .before .before .before .before .before .before in omega (arith, sizes-agree _ (start .pre .admitted .sizes) .sizes)
 
 find-off-measure-requires : tie.Need-find-off-measure-requires
 find-off-measure-requires c κs =
     let one = c .before .before .before .before .before .before in
-    let known = one .before .before .before .before .before .before .before .before .before .pre .admitted in
+    let start = one .before .before .before .before .before .before .before .before .before in
+    let known = start .pre .admitted in
     (known, omega (arith, known .events, one .find-timecode .ensures .few))
 
 system-events-requires : tie.Need-system-events-requires
 system-events-requires c κs =
     let two = c .before .before .before .before .before .before in
     let one = two .before .before .before .before .before .before .before in
-    let known = one .before .before .before .before .before .before .before .before .before .pre .admitted in
+    let start = one .before .before .before .before .before .before .before .before .before in
+    let known = start .pre .admitted in
     (known, omega (arith, known .events, one .find-timecode .ensures .few, two .find-off-measure .ensures .few))
 
 unmatched-tracks-requires : tie.Need-unmatched-tracks-requires
@@ -27,8 +29,9 @@ unmatched-tracks-requires c κs =
     let three = c .before .before .before .before .before .before .before in
     let two = three .before .before .before .before .before .before .before in
     let one = two .before .before .before .before .before .before .before in
-    let can = one .before .before .before .before .before .before .before .before .before .pre in
-    (can, omega (arith, can .admitted .events, one .find-timecode .ensures .few, two .find-off-measure .ensures .few, three .system-events .ensures .few))
+    let start = one .before .before .before .before .before .before .before .before .before in
+    let few = start .pre .admitted .events in
+    (start .pre, omega (arith, few, one .find-timecode .ensures .few, two .find-off-measure .ensures .few, three .system-events .ensures .few))
 
 returns : tie.Need-returns
 returns c =
@@ -36,8 +39,9 @@ returns c =
     let three = four .before .before .before .before .before .before .before .before in
     let two = three .before .before .before .before .before .before .before in
     let one = two .before .before .before .before .before .before .before in
-    all-found _ (one .before .before .before .before .before .before .before .before .before .pre .admitted .events) (one .find-timecode .ensures) (two .find-off-measure .ensures) (three .system-events .ensures)
-    (four .unmatched-tracks .ensures)
+    let start = one .before .before .before .before .before .before .before .before .before in
+    all-found _ (start .pre .admitted .events) (one .find-timecode .ensures) (two .find-off-measure .ensures)
+    (three .system-events .ensures) (four .unmatched-tracks .ensures)
 
 pub find-all-spec : {M : Type 1} → statement M
 find-all-spec =

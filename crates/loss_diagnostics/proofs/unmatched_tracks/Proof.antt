@@ -44,6 +44,11 @@ loop-again c =
     (tracking-next (pre .0) (pre .1) (at-loop .loop .inv) (omega arith) (at-found .unmatched-notes .kept .1 .1 .1 .1 .0)
     (at-found .unmatched-notes .ensures .0) (rw (at-size .size .ensures) at found))
 
+returns : tie.Need-returns Inv-loop μ-loop
+returns c =
+    let at-loop = c .before in
+    walking-end (at-loop .before .before .before .before .before .before .before .pre .0 .admitted) (at-loop .loop .inv .walk) (omega arith)
+
 pub unmatched-tracks-spec : {M : Type 1} → statement M
 unmatched-tracks-spec =
     tie.close
@@ -65,4 +70,4 @@ unmatched-tracks-spec =
     (λ c. places-kept (c .before .loop .inv .walk .found))
     (λ c. details-kept (c .before .loop .inv .walk .found))
     (λ c. c .before .loop .inv .kept)
-    (λ c. let at-loop = c .before in walking-end (at-loop .before .before .before .before .before .before .before .pre .0 .admitted) (at-loop .loop .inv .walk) (omega arith)))
+    returns)
