@@ -1,0 +1,18 @@
+-- `printer::print_text` is safe: each array has its length. A lemma says so, since a search would walk the array.
+use Prim.Native.Nat.{ℕ}
+use mathlib.Core.Path.{sym}
+use lib.ListN.{length-replicate}
+use borrow.Author.Needs.{needs}
+use Rattle.printer.proofs.print_text.Statement.{statement}
+use Rattle.printer.proofs.print_text.Tie as tie
+
+pub print-text-spec : {M : Type 1} → statement M
+print-text-spec =
+    tie.close
+    (tie.spec
+    (λ c. sym (length-replicate {A = ℕ} 65537 0))
+    (λ c. sym (length-replicate {A = ℕ} 500000 0))
+    (λ c. sym (length-replicate {A = ℕ} 500000 0))
+    (λ c κs. search needs)
+    (λ c κs. search needs)
+    (λ c. search needs))
