@@ -14,12 +14,15 @@ returns c =
 
 returns-2 : tie.Need-returns-2
 returns-2 c =
-    let noted = subst (Noted (markers _)) (sym (c .before .before .before .before .before .collect-markers .ensures)) (noted-track (c .before .before .before .before .before .before .before .before .pre)) in
-    drops-mirrors noted (c .before .before .before .before .if1 .left) (sym (c .before .before .none-chained .ensures) ∙ c .before .if2 .taken) (c .mirrored-channels .ensures)
+    let at-if1 = c .before .before .before .before in
+    let at-start = at-if1 .before .before .before .before in
+    let noted = subst (Noted (markers _)) (sym (at-if1 .before .collect-markers .ensures)) (noted-track (at-start .pre)) in
+    drops-mirrors noted (at-if1 .if1 .left) (sym (c .before .before .none-chained .ensures) ∙ c .before .if2 .taken) (c .mirrored-channels .ensures)
 
 returns-3 : tie.Need-returns-3
 returns-3 c =
-    let noted = subst (Noted (markers _)) (sym (c .before .before .before .before .collect-markers .ensures)) (noted-track (c .before .before .before .before .before .before .before .pre)) in
+    let at-collect-markers = c .before .before .before .before in
+    let noted = subst (Noted (markers _)) (sym (at-collect-markers .collect-markers .ensures)) (noted-track (at-collect-markers .before .before .before .pre)) in
     drops-chained noted (c .before .before .before .if1 .left) (sym (c .before .none-chained .ensures) ∙ c .if2 .left)
 
 pub recognized-auxiliary-channels-spec : {M : Type 1} → statement M

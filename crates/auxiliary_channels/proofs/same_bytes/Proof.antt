@@ -12,15 +12,18 @@ returns c =
 
 returns-2 : tie.Need-returns-2
 returns-2 c =
-    let x = c .before .before .before .before .before .before .before .take-apart .ensures in
-    let y = c .before .before .before .before .before .before .take-apart2 .ensures in
+    let at-take-apart2 = c .before .before .before .before .before .before in
+    let x = at-take-apart2 .before .take-apart .ensures in
+    let y = at-take-apart2 .take-apart2 .ensures in
     rw (← x .kind, ← y .kind, ← x .b, ← y .b, ← x .c, ← y .c) (rw (eq-eqb _ _ (c .before .before .before .if1 .left), ne-eqb _ _ (c .if2 .taken)))
 
 returns-3 : tie.Need-returns-3
 returns-3 c =
-    let x = c .before .before .before .before .before .before .before .before .before .take-apart .ensures in
-    let y = c .before .before .before .before .before .before .before .before .take-apart2 .ensures in
-    rw (← x .kind, ← y .kind, ← x .b, ← y .b, ← x .c, ← y .c) (rw (eq-eqb _ _ (c .before .before .before .before .before .if1 .left), eq-eqb _ _ (c .before .before .if2 .left)))
+    let at-if1 = c .before .before .before .before .before in
+    let at-take-apart = at-if1 .before .before .before .before in
+    let x = at-take-apart .take-apart .ensures in
+    let y = at-if1 .before .before .before .take-apart2 .ensures in
+    rw (← x .kind, ← y .kind, ← x .b, ← y .b, ← x .c, ← y .c) (rw (eq-eqb _ _ (at-if1 .if1 .left), eq-eqb _ _ (c .before .before .if2 .left)))
 
 pub same-bytes-spec : {M : Type 1} → statement M
 same-bytes-spec =

@@ -13,19 +13,27 @@ after-requires : tie.Need-after-requires
 after-requires c κs = place-tick (c .before .before .before .before .before .before .pre .track) (c .before .before .before .before .before .before .pre .first)
 
 after-requires-2 : tie.Need-after-requires-2
-after-requires-2 c κs = place-tick (c .before .before .before .before .before .before .before .before .pre .track) (c .before .before .before .before .before .before .before .before .pre .second)
+after-requires-2 c κs =
+    let at-d = c .before .before .before .before in
+    let at-start = at-d .before .before .before .before in
+    place-tick (at-start .pre .track) (at-start .pre .second)
 
 returns-2 : tie.Need-returns-2
 returns-2 c =
-    let inside = rw (c .before .before .before .before .before .before .before .before .before .before .before .before .before .before .pre .track .same) at (c .before .before .before .before .before .before .before .before .before .before .before .if1 .left) in
-    let ticks = sym (c .before .before .before .before .same .ensures) ∙ c .before .before .before .if2 .taken in
-    rw (lt-ltb _ _ inside, ← c .before .before .before .before .before .before .before .after .ensures, ← c .before .before .before .before .before .after2 .ensures, ticks) (c .same-bytes .ensures)
+    let at-same = c .before .before .before .before in
+    let at-after = at-same .before .before .before in
+    let at-if1 = at-after .before .before .before .before in
+    let inside = rw (at-if1 .before .before .before .pre .track .same) at (at-if1 .if1 .left) in
+    let ticks = sym (at-same .same .ensures) ∙ c .before .before .before .if2 .taken in
+    rw (lt-ltb _ _ inside, ← at-after .after .ensures, ← at-same .before .after2 .ensures, ticks) (c .same-bytes .ensures)
 
 returns-3 : tie.Need-returns-3
 returns-3 c =
-    let inside = rw (c .before .before .before .before .before .before .before .before .before .before .before .pre .track .same) at (c .before .before .before .before .before .before .before .before .if1 .left) in
+    let at-after = c .before .before .before .before in
+    let at-if1 = at-after .before .before .before .before in
+    let inside = rw (at-if1 .before .before .before .pre .track .same) at (at-if1 .if1 .left) in
     let ticks = sym (c .before .same .ensures) ∙ c .if2 .left in
-    rw (lt-ltb _ _ inside, ← c .before .before .before .before .after .ensures, ← c .before .before .after2 .ensures, ticks)
+    rw (lt-ltb _ _ inside, ← at-after .after .ensures, ← c .before .before .after2 .ensures, ticks)
 
 pub same-message-spec : {M : Type 1} → statement M
 same-message-spec =

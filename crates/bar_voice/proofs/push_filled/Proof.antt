@@ -32,49 +32,82 @@ voice-chord-requires c κs = can-read (c .before .before .before .before .before
 -- at chord j of the voice
 module _ (c : tie.After-voice-chord Inv-loop μ-loop) where
   abbrev voice : List Chord
-  voice = voiceOf (c .before .before .before .before .before .before .args .n) (c .before .before .before .before .before .before .args .work .now) (c .before .before .before .before .before .before .args .v) (c .before .before .before .before .before .before .args .len)
+  voice =
+      let at-start = c .before .before .before .before .before .before in
+      voiceOf (at-start .args .n) (at-start .args .work .now) (at-start .args .v) (at-start .args .len)
 
   abbrev place : ℕ
   place = c .before .before .loop .j
 
   inside : place < length voice
   inside =
-      omega (arith, voice-length (c .before .before .before .before .before .before .args .n) (c .before .before .before .before .before .before .args .work .now) (c .before .before .before .before .before .before .args .v) (c .before .before .before .before .before .before .args .len), c .before .loop-test .taken)
+      let at-start = c .before .before .before .before .before .before in
+      omega (arith, voice-length (at-start .args .n) (at-start .args .work .now) (at-start .args .v) (at-start .args .len), c .before .loop-test .taken)
 
   read : columns.chordOf (c .voice-chord .result) ≡ chordOf voice place
   read =
+      let at-start = c .before .before .before .before .before .before in
       c .voice-chord .ensures
-      ∙ sym (voice-get (c .before .before .before .before .before .before .args .n) (c .before .before .before .before .before .before .args .work .now) (c .before .before .before .before .before .before .args .v) (c .before .before .before .before .before .before .args .len) place (c .before .loop-test .taken))
+      ∙ sym (voice-get (at-start .args .n) (at-start .args .work .now) (at-start .args .v) (at-start .args .len) place (c .before .loop-test .taken))
 
 -- it starts behind the bar
-only-rests : (c : tie.Then1 Inv-loop μ-loop) → let at = c .before .before .before .before .before .loop in let given = c .before .before .before .before .before .before .before .before .before .args in
+only-rests : (c : tie.Then1 Inv-loop μ-loop) →
+    let at-loop = c .before .before .before .before .before in
+    let at-start = at-loop .before .before .before .before in
+    let at = at-loop .loop in
+    let given = at-start .args in
     coming (quarter (given .values .now)) (given .bar .start) (given .bar .end) (drop (at .j) (voice (c .before .before .before))) (at .tick)
     ≡ rests (quarter (given .values .now)) (given .bar .end - at .tick)
 only-rests c =
-    ahead-late (voice (c .before .before .before)) (place (c .before .before .before)) (inside (c .before .before .before)) (c .before .before .before .before .before .loop .inv .ahead) _ (rw (ap (λ (d : Chord). d .start) (read (c .before .before .before))) at (c .if1 .taken))
+    let at-voice-chord = c .before .before .before in
+    ahead-late (voice at-voice-chord) (place at-voice-chord) (inside at-voice-chord) (at-voice-chord .before .before .loop .inv .ahead) _ (rw (ap (λ (d : Chord). d .start) (read at-voice-chord)) at (c .if1 .taken))
 
 -- or before its end
-starts-early : (c : tie.Else1 Inv-loop μ-loop) → chordOf (voice (c .before .before .before)) (place (c .before .before .before)) .start < c .before .before .before .before .before .before .before .before .before .args .bar .end
+starts-early : (c : tie.Else1 Inv-loop μ-loop) →
+    let at-voice-chord = c .before .before .before in
+    let at-start = at-voice-chord .before .before .before .before .before .before in
+    chordOf (voice at-voice-chord) (place at-voice-chord) .start < at-start .args .bar .end
 starts-early c = rw (ap (λ (d : Chord). d .start) (read (c .before .before .before))) at (c .if1 .left)
 
 push-rests-requires : tie.Need-push-rests-requires Inv-loop μ-loop
-push-rests-requires c κs = let pre = c .before .before .before .before .before .before .before .before .before .before .before .before .pre in (pre .0, mid-rest (pre .4) (c .before .before .before .before .before .before .before .before .loop .inv) (only-rests (c .before .before .before)))
+push-rests-requires c κs =
+    let at-if1 = c .before .before .before in
+    let at-loop = at-if1 .before .before .before .before .before in
+    let at-start = at-loop .before .before .before .before in
+    let pre = at-start .pre in
+    (pre .0, mid-rest (pre .4) (at-loop .loop .inv) (only-rests at-if1))
 
 same-length : tie.Need-same-length Inv-loop μ-loop
-same-length c = c .before .before .before .before .push-rests .kept .1 .1 .1 .0 ∙ mid-heads (c .before .before .before .before .before .before .before .before .before .before .before .before .before .before .before .before .before .pre .4) (c .before .before .before .before .before .before .before .before .before .before .before .before .before .loop .inv)
+same-length c =
+    let at-push-rests = c .before .before .before .before in
+    let at-if1 = at-push-rests .before .before .before .before in
+    let at-loop = at-if1 .before .before .before .before .before in
+    let at-start = at-loop .before .before .before .before in
+    at-push-rests .push-rests .kept .1 .1 .1 .0 ∙ mid-heads (at-start .pre .4) (at-loop .loop .inv)
 
 same-length-2 : tie.Need-same-length-2 Inv-loop μ-loop
-same-length-2 c = c .before .before .before .before .push-rests .kept .1 .1 .1 .1 .0 ∙ mid-keys (c .before .before .before .before .before .before .before .before .before .before .before .before .before .before .before .before .before .pre .4) (c .before .before .before .before .before .before .before .before .before .before .before .before .before .loop .inv)
+same-length-2 c =
+    let at-push-rests = c .before .before .before .before in
+    let at-if1 = at-push-rests .before .before .before .before in
+    let at-loop = at-if1 .before .before .before .before .before in
+    let at-start = at-loop .before .before .before .before in
+    at-push-rests .push-rests .kept .1 .1 .1 .1 .0 ∙ mid-keys (at-start .pre .4) (at-loop .loop .inv)
 
 returns : tie.Need-returns Inv-loop μ-loop
-returns c = mid-end (c .before .before .before .before .before .before .before .before .before .before .before .before .before .before .before .before .before .pre .4) (c .before .before .before .before .before .before .before .before .before .before .before .before .before .loop .inv) (only-rests (c .before .before .before .before .before .before .before .before)) (c .before .before .before .before .push-rests .ensures)
+returns c =
+    let at-push-rests = c .before .before .before .before in
+    let at-if1 = at-push-rests .before .before .before .before in
+    let at-loop = at-if1 .before .before .before .before .before in
+    let at-start = at-loop .before .before .before .before in
+    mid-end (at-start .pre .4) (at-loop .loop .inv) (only-rests at-if1) (at-push-rests .push-rests .ensures)
 
 push-gap-and-chord-requires : tie.Need-push-gap-and-chord-requires Inv-loop μ-loop
 push-gap-and-chord-requires c κs =
-    let pre = c .before .before .before .before .before .before .before .before .before .before .before .pre in
-    let at = c .before .before .before .before .before .before .before .loop in
-    let early = starts-early (c .before .before) in
-    let v = c .before .before .before .before .before in (
+    let v = c .before .before .before .before .before in
+    let at-start = v .before .before .before .before .before .before in
+    let pre = at-start .pre in
+    let at = v .before .before .loop in
+    let early = starts-early (c .before .before) in (
       pre .0,
       rw (read v) (ahead-sounds (voice v) (place v) (inside v) (at .inv .ahead) early (pre .2)),
       rw (ap (λ (d : Chord). d .start) (read v)) (ahead-gap (voice v) (place v) (inside v) (at .inv .ahead)),
@@ -83,9 +116,11 @@ push-gap-and-chord-requires c κs =
 
 loop-again : tie.Need-loop-again Inv-loop μ-loop
 loop-again c =
-    let v = c .before .before .before .before .before .before .before .before .before .before .before in
+    let at-push-gap-and-chord = c .before .before .before .before .before in
+    let v = at-push-gap-and-chord .before .before .before .before .before .before in
+    let at-start = v .before .before .before .before .before .before in
     rw (c .smaller .ensures, ap (λ (d : Chord). d .end) (read v))
-    (mid-more (c .before .before .before .before .before .before .before .before .before .before .before .before .before .before .before .before .before .pre .4) (c .before .before .before .before .before .before .before .before .before .before .before .before .before .loop .inv) (inside v) (starts-early (c .before .before .before .before .before .before .before .before)) (rw (read v) at (c .before .before .before .before .before .push-gap-and-chord .ensures)))
+    (mid-more (at-start .pre .4) (v .before .before .loop .inv) (inside v) (starts-early (at-push-gap-and-chord .before .before .before)) (rw (read v) at (at-push-gap-and-chord .push-gap-and-chord .ensures)))
 
 -- no chord is left
 none-left : (c : tie.After-loop Inv-loop μ-loop) → let at = c .before .loop in let given = c .before .before .before .before .before .args in
@@ -98,16 +133,32 @@ none-left c =
     ahead-none _ _ _ _ cs _ over
 
 push-rests-requires-2 : tie.Need-push-rests-requires-2 Inv-loop μ-loop
-push-rests-requires-2 c κs = let pre = c .before .before .before .before .before .before .before .before .pre in (pre .0, mid-rest (pre .4) (c .before .before .before .before .loop .inv) (none-left (c .before .before .before)))
+push-rests-requires-2 c κs =
+    let at-loop = c .before .before .before .before in
+    let at-start = at-loop .before .before .before .before in
+    let pre = at-start .pre in
+    (pre .0, mid-rest (pre .4) (at-loop .loop .inv) (none-left (c .before .before .before)))
 
 same-length-3 : tie.Need-same-length-3 Inv-loop μ-loop
-same-length-3 c = c .before .before .before .before .push-rests2 .kept .1 .1 .1 .0 ∙ mid-heads (c .before .before .before .before .before .before .before .before .before .before .before .before .before .pre .4) (c .before .before .before .before .before .before .before .before .before .loop .inv)
+same-length-3 c =
+    let at-push-rests2 = c .before .before .before .before in
+    let at-loop = at-push-rests2 .before .before .before .before .before in
+    let at-start = at-loop .before .before .before .before in
+    at-push-rests2 .push-rests2 .kept .1 .1 .1 .0 ∙ mid-heads (at-start .pre .4) (at-loop .loop .inv)
 
 same-length-4 : tie.Need-same-length-4 Inv-loop μ-loop
-same-length-4 c = c .before .before .before .before .push-rests2 .kept .1 .1 .1 .1 .0 ∙ mid-keys (c .before .before .before .before .before .before .before .before .before .before .before .before .before .pre .4) (c .before .before .before .before .before .before .before .before .before .loop .inv)
+same-length-4 c =
+    let at-push-rests2 = c .before .before .before .before in
+    let at-loop = at-push-rests2 .before .before .before .before .before in
+    let at-start = at-loop .before .before .before .before in
+    at-push-rests2 .push-rests2 .kept .1 .1 .1 .1 .0 ∙ mid-keys (at-start .pre .4) (at-loop .loop .inv)
 
 returns-2 : tie.Need-returns-2 Inv-loop μ-loop
-returns-2 c = mid-end (c .before .before .before .before .before .before .before .before .before .before .before .before .before .pre .4) (c .before .before .before .before .before .before .before .before .before .loop .inv) (none-left (c .before .before .before .before .before .before .before .before)) (c .before .before .before .before .push-rests2 .ensures)
+returns-2 c =
+    let at-push-rests2 = c .before .before .before .before in
+    let at-loop-test = at-push-rests2 .before .before .before .before in
+    let at-start = at-loop-test .before .before .before .before .before in
+    mid-end (at-start .pre .4) (at-loop-test .before .loop .inv) (none-left at-loop-test) (at-push-rests2 .push-rests2 .ensures)
 
 pub push-filled-spec : {M : Type 1} → statement M
 push-filled-spec =

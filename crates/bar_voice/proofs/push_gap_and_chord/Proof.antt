@@ -22,22 +22,29 @@ module _ (c : tie.Start) where
 push-rests-requires : tie.Need-push-rests-requires
 unfolding gapAndChord
 push-rests-requires c κs =
-    let pre = c .before .before .before .before .before .pre in
-    (pre .0, rw (c .before .before .larger .ensures) (going-room (pre .3) (going-start _ _ _ _ _) (gap (c .before .before .before .before .before)) (chord (c .before .before .before .before .before)) refl))
+    let at-start = c .before .before .before .before .before in
+    let pre = at-start .pre in
+    (pre .0, rw (c .before .before .larger .ensures) (going-room (pre .3) (going-start _ _ _ _ _) (gap at-start) (chord at-start) refl))
 
 push-chord-requires : tie.Need-push-chord-requires
 unfolding gapAndChord
 push-chord-requires c κs =
-    let pre = c .before .before .before .before .before .before .before .before .before .before .before .before .pre in
-    let rests = rw (c .before .before .before .before .before .before .before .before .before .larger .ensures) at (c .before .before .before .before .before .before .push-rests .ensures) in
-    (pre .0, pre .1, going-left (pre .3) (going-more (pre .3) (going-start _ _ _ _ _) (gap (c .before .before .before .before .before .before .before .before .before .before .before .before)) (chord (c .before .before .before .before .before .before .before .before .before .before .before .before)) refl rests))
+    let at-push-rests = c .before .before .before .before .before .before in
+    let at-start = at-push-rests .before .before .before .before .before .before in
+    let pre = at-start .pre in
+    let rests = rw (at-push-rests .before .before .before .larger .ensures) at (at-push-rests .push-rests .ensures) in
+    (pre .0, pre .1, going-left (pre .3) (going-more (pre .3) (going-start _ _ _ _ _) (gap at-start) (chord at-start) refl rests))
 
 returns : tie.Need-returns
 unfolding gapAndChord
 returns c =
-    let pre = c .before .before .before .before .before .before .before .before .before .before .before .before .before .before .before .before .before .pre in
-    let rests = rw (c .before .before .before .before .before .before .before .before .before .before .before .before .before .before .larger .ensures) at (c .before .before .before .before .before .before .before .before .before .before .before .push-rests .ensures) in
-    going-end (pre .3) (going-more (pre .3) (going-start _ _ _ _ _) (gap (c .before .before .before .before .before .before .before .before .before .before .before .before .before .before .before .before .before)) (chord (c .before .before .before .before .before .before .before .before .before .before .before .before .before .before .before .before .before)) refl rests) (c .before .before .before .before .push-chord .ensures)
+    let at-push-chord = c .before .before .before .before in
+    let at-keys = at-push-chord .before .before .before .before in
+    let at-push-rests = at-keys .before .before .before in
+    let at-start = at-push-rests .before .before .before .before .before .before in
+    let pre = at-start .pre in
+    let rests = rw (at-push-rests .before .before .before .larger .ensures) at (at-push-rests .push-rests .ensures) in
+    going-end (pre .3) (going-more (pre .3) (going-start _ _ _ _ _) (gap at-start) (chord at-start) refl rests) (at-push-chord .push-chord .ensures)
 
 pub push-gap-and-chord-spec : {M : Type 1} → statement M
 push-gap-and-chord-spec =

@@ -17,7 +17,9 @@ push-filled-requires c κs =
     (pre .0, pre .1, pre .2, pre .3, rw (eq-eqb _ _ (c .before .before .if1 .taken)) at (pre .4))
 
 returns : tie.Need-returns
-returns c = rw (eq-eqb _ _ (c .before .before .before .before .before .before .before .if1 .taken)) (c .before .before .before .before .push-filled .ensures)
+returns c =
+    let at-push-filled = c .before .before .before .before in
+    rw (eq-eqb _ _ (at-push-filled .before .before .before .if1 .taken)) (at-push-filled .push-filled .ensures)
 
 -- what the test says of voices 1 to 3
 sounding : (c : tie.After-sounds) → let given = c .before .before .before .before .before .args in
@@ -29,11 +31,16 @@ sounding c =
 
 push-filled-requires-2 : tie.Need-push-filled-requires-2
 push-filled-requires-2 c κs =
-    let pre = c .before .before .before .before .before .before .before .before .pre in
-    (pre .0, pre .1, pre .2, pre .3, rw (ne-eqb _ _ (c .before .before .before .before .if1 .left), sounding (c .before .before .before) ∙ c .before .before .if2 .taken) at (pre .4))
+    let at-if1 = c .before .before .before .before in
+    let at-start = at-if1 .before .before .before .before in
+    let pre = at-start .pre in
+    (pre .0, pre .1, pre .2, pre .3, rw (ne-eqb _ _ (at-if1 .if1 .left), sounding (c .before .before .before) ∙ c .before .before .if2 .taken) at (pre .4))
 
 returns-2 : tie.Need-returns-2
-returns-2 c = rw (ne-eqb _ _ (c .before .before .before .before .before .before .before .before .before .if1 .left), sounding (c .before .before .before .before .before .before .before .before) ∙ c .before .before .before .before .before .before .before .if2 .taken) (c .before .before .before .before .push-filled2 .ensures)
+returns-2 c =
+    let at-push-filled2 = c .before .before .before .before in
+    let at-sounds = at-push-filled2 .before .before .before .before in
+    rw (ne-eqb _ _ (at-sounds .before .if1 .left), sounding at-sounds ∙ at-push-filled2 .before .before .before .if2 .taken) (at-push-filled2 .push-filled2 .ensures)
 
 returns-3 : tie.Need-returns-3
 returns-3 c = rw (ne-eqb _ _ (c .before .before .if1 .left), sounding (c .before) ∙ c .if2 .left) (items-none _ _ _ _)

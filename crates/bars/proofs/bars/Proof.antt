@@ -17,7 +17,9 @@ use Rattle.bars.proofs.bars.Tie as tie
 -- the piece, of which none of 1 to 6 applies
 abbrev given : tie.Else1 → Piece
 given c =
-    let a = c .before .before .before .before .before .before .before .before .args in
+    let at-open-notes = c .before .before in
+    let at-start = at-open-notes .before .before .before .before .before .before in
+    let a = at-start .args in
     piece (a .sizes .now) (a .deltas .now) (a .words .now)
 
 passed : (c : tie.Else1) → Passes (noteRefusals (given c))
@@ -69,8 +71,10 @@ midi-bars-requires c κs =
 
 cast-t19 : tie.Need-cast-t19
 cast-t19 c =
-    let at-count = c .before .before .before .before .before .before .before .before .before in
-    omega (arith, counted at-count, few-bars (given (at-count .before .before .before .before)))
+    let at-midi-bars = c .before .before .before .before in
+    let at-count = at-midi-bars .before .before .before .before .before in
+    let at-if1 = at-count .before .before .before .before in
+    omega (arith, counted at-count, few-bars (given at-if1))
 
 returns-4 : tie.Need-returns-4
 returns-4 c =

@@ -27,14 +27,15 @@ started c =
 
 ended : (c : tie.After-larger Inv-loop μ-loop) → c .larger .result ≤ 2 ^ 47 + 98302
 ended c =
-    let here = c .before .before .before .before .before .before .loop in
-    let a = c .before .before .before .before .before .before .before .before .args in
-    omega (arith, started (c .before .before), words-in (c .before .before .before .before .before), snap-le (a .g) (getD (here .work) (here .i) 0 / 16))
+    let at-loop-test = c .before .before .before .before .before in
+    let here = at-loop-test .before .loop in
+    let a = at-loop-test .before .before .before .args in
+    omega (arith, started (c .before .before), words-in at-loop-test, snap-le (a .g) (getD (here .work) (here .i) 0 / 16))
 
 loop-again : tie.Need-loop-again Inv-loop μ-loop
 loop-again c =
-    let start = c .before .before .before .before .before .before .before .before in
     let here = c .before .before .before .before .before .before in
+    let start = here .before .before in
     snapping-one (start .pre) (here .loop .inv) (omega arith) _ _ (c .before .before .snap .ensures) (rw (c .before .snap2 .ensures) at (c .larger .ensures))
 
 returns : tie.Need-returns Inv-loop μ-loop

@@ -9,7 +9,8 @@ use Rattle.diagnostics.proofs.diagnostics.Tie as tie
 returns : tie.Need-returns
 returns c =
     let at-clear = c .before .before in
-    let at-written = at-clear .before .before .before .before .before .before .before .before in
+    let at-work = at-clear .before .before .before in
+    let at-written = at-work .before .before .before .before .before in
     let kept = at-written .write-diagnostics .kept .1 .1 .1 .1 .1 .0 in
     work-zeroed (at-written .write-diagnostics .ensures) (at-clear .clear .ensures ∙ ap (λ n. replicate n 0) kept)
 

@@ -24,8 +24,10 @@ returns-2 c =
 
 -- the work area has room
 enough : (c : tie.Else2)
-    → let at-open = c .before .before .before .before in
-    let start = at-open .before .before .before .before .before .before .before in
+    →
+    let at-open = c .before .before .before .before in
+    let at-slice-known = at-open .before .before .before in
+    let start = at-slice-known .before .before .before .before in
     workFor (at-open .open-piece .result .most) ≤ length (start .args .work .now)
 enough c = omega (arith, c .if2 .left, c .before .work-for .ensures)
 
@@ -84,8 +86,10 @@ loss-diagnostics-requires c κs =
 
 cast-t22 : tie.Need-cast-t22
 cast-t22 c =
-    let at-if5 = c .before .before .before .before .before .before .before .before .before .before in
-    omega (arith, at-if5 .before .before .before .before .before .count-diagnostics .ensures .1)
+    let at-places = c .before .before .before .before .before in
+    let at-if5 = at-places .before .before .before .before .before in
+    let at-count-diagnostics = at-if5 .before .before .before .before .before in
+    omega (arith, at-count-diagnostics .count-diagnostics .ensures .1)
 
 returns-6 : tie.Need-returns-6
 returns-6 c =

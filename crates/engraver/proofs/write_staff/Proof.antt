@@ -25,12 +25,18 @@ module _ (c : tie.Start) where
   four : length vs ≡ 4
   four = four-voices (c .args .n) (c .args .work .now) (c .args .lens)
 
+abbrev start-of-has-room : tie.After-has-room → tie.Start
+start-of-has-room c =
+    let at-slice-known = c .before .before .before .before in
+    at-slice-known .before .before .before .before
+
 -- what the test says of the staff's size
-room : (c : tie.After-has-room) → let o = c .before .before .before .before .before .before .before .before in
+room : (c : tie.After-has-room) →
+    let o = start-of-has-room c in
     roomFor (sizeBy (o .args .p) (bs o) (vs o)) (length (o .args .counts .now)) (length (o .args .heads .now)) (length (o .args .keys .now))
     ≡ c .has-room .result
 room c =
-    let o = c .before .before .before .before .before .before .before .before in
+    let o = start-of-has-room c in
     sym
     (ap (λ (s : StaffSize). roomFor s (length (o .args .counts .now)) (length (o .args .heads .now)) (length (o .args .keys .now)))
     (c .before .measure-staff .ensures))
@@ -40,7 +46,7 @@ transcribe-track-requires : tie.Need-transcribe-track-requires
 transcribe-track-requires c κs =
     let at-values = c .before .before .before .before in
     let at-room = at-values .before .before in
-    let o = at-room .before .before .before .before .before .before .before .before in
+    let o = start-of-has-room at-room in
     rw (at-values .note-values .ensures) (
       table-is _ (o .pre .1),
       rw (quarter-is _) (o .pre .0),
@@ -56,7 +62,7 @@ returns c =
     let at-staff = c .before .before .before .before .before .before in
     let at-values = at-staff .before .before .before .before .before in
     let at-room = at-values .before .before in
-    let o = at-room .before .before .before .before .before .before .before .before in
+    let o = start-of-has-room at-room in
     let put = rw (at-values .note-values .ensures, quarter-is _) at (at-staff .transcribe-track .ensures) in
     written-out (o .args .p) (vs o) (four o) (bs o) (o .args .counts .now) (o .args .heads .now) (o .args .keys .now)
     (room at-room ∙ at-values .before .if1 .taken) (at-room .before .measure-staff .ensures) put
@@ -64,7 +70,7 @@ returns c =
 returns-2 : tie.Need-returns-2
 returns-2 c =
     let at-room = c .before in
-    let o = at-room .before .before .before .before .before .before .before .before in
+    let o = start-of-has-room at-room in
     left-out (o .args .p) (vs o) (four o) (bs o) (o .args .counts .now) (o .args .heads .now) (o .args .keys .now) (room at-room ∙ c .if1 .left)
 
 pub write-staff-spec : {M : Type 1} → statement M

@@ -18,21 +18,24 @@ abbrev μ-loop : tie.MeasureT-loop
 
 length-of-requires : tie.Need-length-of-requires Inv-loop μ-loop
 length-of-requires c κs =
-    let start = c .before .before .before .before .before .before .before in
-    let w = All-get _ (start .args .words .now) (c .before .before .before .before .before .loop .i) 0 (start .pre .1) (omega arith) in
+    let at-loop = c .before .before .before .before .before in
+    let start = at-loop .before .before in
+    let w = All-get _ (start .args .words .now) (at-loop .loop .i) 0 (start .pre .1) (omega arith) in
     (start .pre .0, meter-bounds _ w (sym (c .before .before .kind-of .ensures) ∙ c .before .if1 .taken))
 
 returns : tie.Need-returns Inv-loop μ-loop
 returns c =
-    let start = c .before .before .before .before .before .before .before .before in
-    let at = c .before .before .before .before .before .before .loop in
+    let at-loop = c .before .before .before .before .before .before in
+    let start = at-loop .before .before in
+    let at = at-loop .loop in
     let first = sym (meter-here (start .args .words .now) (at .i) (omega arith) (sym (c .before .before .before .kind-of .ensures) ∙ c .before .before .if1 .taken)) ∙ at .inv .1 in
     c .length-of .ensures ∙ ap (meterLength (start .args .p)) first
 
 loop-again : tie.Need-loop-again Inv-loop μ-loop
 loop-again c =
-    let at = c .before .before .before .before .loop in
-    (omega arith, sym (meter-on (c .before .before .before .before .before .before .args .words .now) (at .i) (omega arith) (λ k. c .if1 .left (c .before .kind-of .ensures ∙ k))) ∙ at .inv .1)
+    let at-loop = c .before .before .before .before in
+    let at = at-loop .loop in
+    (omega arith, sym (meter-on (at-loop .before .before .args .words .now) (at .i) (omega arith) (λ k. c .if1 .left (c .before .kind-of .ensures ∙ k))) ∙ at .inv .1)
 
 returns-2 : tie.Need-returns-2 Inv-loop μ-loop
 returns-2 c =

@@ -9,8 +9,10 @@ use Rattle.event_diagnostics.proofs.put_event.Tie as tie
 
 put-requires : tie.Need-put-requires
 put-requires c κs =
-    let a = c .before .before .before .before .before .before .before .before .args in
-    let pre = c .before .before .before .before .before .before .before .before .pre in
+    let at-if1 = c .before .before .before .before in
+    let at-start = at-if1 .before .before .before .before in
+    let a = at-start .args in
+    let pre = at-start .pre in
     rw (c .before .before .at-event .ensures) (
       record {
         code = omega (arith, c .before .before .before .code-of .ensures, code-small (a .group));
@@ -25,9 +27,12 @@ put-requires c κs =
 
 returns : tie.Need-returns
 returns c =
-    let a = c .before .before .before .before .before .before .before .before .before .before .before .before .before .args in
-    rw (one-found (a .group) (a .track) (record { number = a .event; tick = a .tick; word = a .word }) (sym (c .before .before .before .before .before .before .before .before .before .before .is-found .ensures) ∙ c .before .before .before .before .before .before .before .before .before .if1 .taken))
-    (rw (c .before .before .before .before .before .before .before .at-event .ensures, c .before .before .before .before .before .before .before .before .code-of .ensures) at (c .before .before .before .before .put .ensures))
+    let at-put = c .before .before .before .before in
+    let at-code-of = at-put .before .before .before .before in
+    let at-start = at-code-of .before .before .before .before .before in
+    let a = at-start .args in
+    rw (one-found (a .group) (a .track) (record { number = a .event; tick = a .tick; word = a .word }) (sym (at-code-of .before .before .is-found .ensures) ∙ at-code-of .before .if1 .taken))
+    (rw (at-put .before .before .before .at-event .ensures, at-code-of .code-of .ensures) at (at-put .put .ensures))
 
 returns-2 : tie.Need-returns-2
 returns-2 c =

@@ -9,17 +9,27 @@ use Rattle.loss_diagnostics.proofs.FirstTrack.{first-searchable, off-fo
 use Rattle.loss_diagnostics.proofs.find_off_measure.Statement.{statement}
 use Rattle.loss_diagnostics.proofs.find_off_measure.Tie as tie
 
+abbrev start-of-first-track : tie.After-first-track → tie.Start
+start-of-first-track c =
+    let at-ticks-per-quarter = c .before in
+    at-ticks-per-quarter .before .before .before .before .before .before
+
 -- where the first track stands
 span : (c : tie.After-first-track)
-    → let given = c .before .before .before .before .before .before .before .args in
+    →
+    let at-start = start-of-first-track c in
+    let given = at-start .args in
     IsSpan (given .deltas .now) (given .words .now) (firstTrack (piece (given .sizes .now) (given .deltas .now) (given .words .now)))
     (c .first-track .result)
-span c = c .first-track .ensures _ _ (c .before .before .before .before .before .before .before .pre .0 .sizes)
+span c =
+    let at-start = start-of-first-track c in
+    c .first-track .ensures _ _ (at-start .pre .0 .sizes)
 
 first-meter-length-requires : tie.Need-first-meter-length-requires
 first-meter-length-requires c κs =
     let at-first = c .before .before in
-    let known = at-first .before .before .before .before .before .before .before .pre .0 in
+    let at-start = start-of-first-track at-first in
+    let known = at-start .pre .0 in
     rw (c .cut2 .ensures)
     (omega (arith, at-first .before .ticks-per-quarter .ensures, quarter-fits _ known), span-track _ known (span at-first) .formed)
 
@@ -27,7 +37,8 @@ find-events-requires : tie.Need-find-events-requires
 find-events-requires c κs =
     let at-cut2 = c .before .before .before in
     let at-first = at-cut2 .before .before in
-    let pre = at-first .before .before .before .before .before .before .before .pre in
+    let at-start = start-of-first-track at-first in
+    let pre = at-start .pre in
     rw (at-cut2 .before .cut .ensures, at-cut2 .cut2 .ensures) (first-searchable _ (pre .0) (span at-first) (pre .1))
 
 returns : tie.Need-returns
@@ -36,7 +47,8 @@ returns c =
     let at-length = at-found .before .before .before in
     let at-cut2 = at-length .before in
     let at-first = at-cut2 .before .before in
-    off-found _ (at-first .before .before .before .before .before .before .before .pre .0) (span at-first) (at-first .before .ticks-per-quarter .ensures)
+    let at-start = start-of-first-track at-first in
+    off-found _ (at-start .pre .0) (span at-first) (at-first .before .ticks-per-quarter .ensures)
     (rw (at-cut2 .cut2 .ensures) at (at-length .first-meter-length .ensures))
     (rw (at-cut2 .before .cut .ensures, at-cut2 .cut2 .ensures) at (at-found .find-events .ensures))
 

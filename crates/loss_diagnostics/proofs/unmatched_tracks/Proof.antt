@@ -23,12 +23,18 @@ cut-requires c κs = cut-deltas (c .before .before .before .loop .inv .walk .cut
 cut-requires-2 : tie.Need-cut-requires-2 Inv-loop μ-loop
 cut-requires-2 c κs = let at-size = c .before in cut-words (at-size .before .before .before .loop .inv .walk .cut) (omega arith) (at-size .size .ensures)
 
+abbrev start-of-loop : tie.At-loop Inv-loop μ-loop → tie.Start Inv-loop μ-loop
+start-of-loop c =
+    let at-slice-known = c .before .before .before in
+    at-slice-known .before .before .before .before
+
 unmatched-notes-requires : tie.Need-unmatched-notes-requires Inv-loop μ-loop
 unmatched-notes-requires c κs =
     let at-cut2 = c .before .before .before .before .before in
     let at-size = at-cut2 .before .before in
     let at-loop = at-size .before .before .before in
-    let pre = at-loop .before .before .before .before .before .before .before .pre in
+    let at-start = start-of-loop at-loop in
+    let pre = at-start .pre in
     rw (at-cut2 .before .cut .ensures, at-cut2 .cut2 .ensures)
     (rw (at-size .size .ensures) (tracking-fresh (pre .0) (pre .1) (at-loop .loop .inv) (omega arith)))
 
@@ -38,7 +44,8 @@ loop-again c =
     let at-cut2 = at-found .before .before .before .before .before .before in
     let at-size = at-cut2 .before .before in
     let at-loop = at-size .before .before .before in
-    let pre = at-loop .before .before .before .before .before .before .before .pre in
+    let at-start = start-of-loop at-loop in
+    let pre = at-start .pre in
     let found = rw (at-cut2 .before .cut .ensures, at-cut2 .cut2 .ensures) at (at-found .unmatched-notes .ensures .1) in
     rw (at-size .size .ensures)
     (tracking-next (pre .0) (pre .1) (at-loop .loop .inv) (omega arith) (at-found .unmatched-notes .kept .1 .1 .1 .1 .0)
@@ -47,7 +54,8 @@ loop-again c =
 returns : tie.Need-returns Inv-loop μ-loop
 returns c =
     let at-loop = c .before in
-    walking-end (at-loop .before .before .before .before .before .before .before .pre .0 .admitted) (at-loop .loop .inv .walk) (omega arith)
+    let at-start = start-of-loop at-loop in
+    walking-end (at-start .pre .0 .admitted) (at-loop .loop .inv .walk) (omega arith)
 
 pub unmatched-tracks-spec : {M : Type 1} → statement M
 unmatched-tracks-spec =

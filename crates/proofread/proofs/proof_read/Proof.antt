@@ -16,7 +16,9 @@ use Rattle.proofread.proofs.proof_read.Tie as tie
 
 -- the function's start, from behind the opening
 abbrev start : tie.After-open-part → tie.Start
-start c = c .before .before .before .before .before .before .before .before
+start c =
+    let at-shared-slice-known4 = c .before .before .before .before in
+    at-shared-slice-known4 .before .before .before .before
 
 abbrev given : tie.Start → Piece
 given c = piece (c .args .sizes .now) (c .args .deltas .now) (c .args .words .now)

@@ -23,7 +23,9 @@ abbrev μ-loop : tie.MeasureT-loop
 
 -- the function's start, from behind the clearing
 abbrev start : tie.After-clear-marks Inv-loop μ-loop → tie.Start Inv-loop μ-loop
-start c = c .before .before .before .before .before .before .before .before
+start c =
+    let at-shared-slice-known4 = c .before .before .before .before in
+    at-shared-slice-known4 .before .before .before .before
 
 -- the clearing, from the loop's head
 abbrev clearing : tie.At-loop Inv-loop μ-loop → tie.After-clear-marks Inv-loop μ-loop
@@ -45,7 +47,9 @@ readable c = readable-same (same-then (clearing c .clear-marks .ensures .same) (
 
 clear-marks-requires : tie.Need-clear-marks-requires Inv-loop μ-loop
 clear-marks-requires c κs =
-    let q = c .before .before .before .before .before .before .before .pre in
+    let at-shared-slice-known4 = c .before .before .before in
+    let at-start = at-shared-slice-known4 .before .before .before .before in
+    let q = at-start .pre in
     (q .0 .room, q .0 .area)
 
 loop-holds : tie.Need-loop-holds Inv-loop μ-loop

@@ -22,7 +22,9 @@ abbrev μ-loop : tie.MeasureT-loop
 
 -- the function's start, from the loop's head
 abbrev start : tie.At-loop Inv-loop μ-loop → tie.Start Inv-loop μ-loop
-start c = c .before .before .before .before .before .before .before .before .before
+start c =
+    let at-shared-slice-known5 = c .before .before .before .before in
+    at-shared-slice-known5 .before .before .before .before .before
 
 -- in the loop a bar's counts are left, and they are few
 few-counts : (c : tie.In-loop Inv-loop μ-loop) → 4 * c .before .loop .bar + 4 ≤ 40000
@@ -34,7 +36,8 @@ first-bar-requires c κs = c .before .before .before .before .before .before .pr
 loop-holds : tie.Need-loop-holds Inv-loop μ-loop
 loop-holds c =
     let at-first = c .before in
-    let at-start = at-first .before .before .before .before .before .before .before in
+    let at-shared-slice-known4 = at-first .before .before .before in
+    let at-start = at-shared-slice-known4 .before .before .before .before in
     along-start (at-start .pre .3) (at-first .first-bar .ensures) (c .new-voice .ensures)
 
 next-bar-requires : tie.Need-next-bar-requires Inv-loop μ-loop
@@ -144,7 +147,8 @@ same-length-2 : tie.Need-same-length-2 Inv-loop μ-loop
 same-length-2 c =
     let at-end = c .before .before in
     let at-last = at-end .before .before in
-    let at-read = at-last .before .before .before .before .before .before .before in
+    let at-if1 = at-last .before .before .before in
+    let at-read = at-if1 .before .before .before .before in
     let at-loop = at-read .before .before .before .before .before .before in
     at-end .end-voice .ensures .same .kept ∙ at-read .read-bar .ensures .same .kept ∙ at-loop .loop .inv .area .kept
 
@@ -168,7 +172,8 @@ returns-2 c =
 
 take-changes-requires : tie.Need-take-changes-requires Inv-loop μ-loop
 take-changes-requires c κs =
-    let at-read = c .before .before .before .before .before .before .before in
+    let at-if1 = c .before .before .before in
+    let at-read = at-if1 .before .before .before .before in
     let at-next = at-read .before .before .before .before in
     let at-loop = at-next .before .before in
     let q = start at-loop .pre in
@@ -177,7 +182,8 @@ take-changes-requires c κs =
 
 loop-less : tie.Need-loop-less Inv-loop μ-loop
 loop-less c =
-    let at-read = c .before .before .before .before .before .before .before .before in
+    let at-if1 = c .before .before .before .before in
+    let at-read = at-if1 .before .before .before .before in
     let at-test = at-read .before .before .before .before .before in
     omega (arith, at-test .loop-test .taken)
 
@@ -221,6 +227,18 @@ returns-3 c =
     let at-loop = at-over .before in
     voice-ends (start at-loop .pre .0 .room) (along-end (at-loop .loop .inv) (at-over .loop-test .left)) (at-end .end-voice2 .ensures)
 
+mul-sum-counts-2 : tie.Need-mul-sum-counts-2 Inv-loop μ-loop
+mul-sum-counts-2 c =
+    let at-read-bar = c .before .before .before .before in
+    let at-loop-test = at-read-bar .before .before .before .before .before in
+    omega (arith, few-counts at-loop-test)
+
+add-bar : tie.Need-add-bar Inv-loop μ-loop
+add-bar c =
+    let at-read-bar = c .before .before .before .before .before in
+    let at-loop-test = at-read-bar .before .before .before .before .before in
+    omega (arith, few-counts at-loop-test)
+
 pub read-voice-spec : {M : Type 1} → statement M
 read-voice-spec =
     tie.close
@@ -242,10 +260,10 @@ read-voice-spec =
     read-bar-requires
     same-length
     returns
-    (λ c. omega (arith, few-counts (c .before .before .before .before .before .before .before .before .before)))
+    mul-sum-counts-2
     sum-counts-requires-2
     add-first
-    (λ c. omega (arith, few-counts (c .before .before .before .before .before .before .before .before .before .before)))
+    add-bar
     end-voice-requires
     same-length-2
     returns-2

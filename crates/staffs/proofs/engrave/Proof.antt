@@ -36,36 +36,44 @@ write-staff-requires c κs =
 same-length-2 : tie.Need-same-length-2
 same-length-2 c =
     let at-clear = c .before .before .before in
-    let at-staff = at-clear .before .before .before .before .before .before .before .before in
+    let at-keys = at-clear .before .before .before in
+    let at-staff = at-keys .before .before .before .before .before in
     at-staff .write-staff .kept .1 .1 .1 .1 .1 .1 .1 .1 .0
 
 same-length-3 : tie.Need-same-length-3
 same-length-3 c =
     let at-clear = c .before .before .before in
-    let at-staff = at-clear .before .before .before .before .before .before .before .before in
+    let at-keys = at-clear .before .before .before in
+    let at-staff = at-keys .before .before .before .before .before in
     at-staff .write-staff .kept .1 .1 .1 .1 .1 .1 .1 .1 .1 .0
 
 same-length-4 : tie.Need-same-length-4
 same-length-4 c =
     let at-clear = c .before .before .before in
-    let at-staff = at-clear .before .before .before .before .before .before .before .before in
+    let at-keys = at-clear .before .before .before in
+    let at-staff = at-keys .before .before .before .before .before in
     at-staff .write-staff .kept .1 .1 .1 .1 .1 .1 .1 .1 .1 .1 .0
 
 same-length-5 : tie.Need-same-length-5
 same-length-5 c =
     let at-clear = c .before .before .before in
-    let at-staff = at-clear .before .before .before .before .before .before .before .before in
-    let at-source = at-staff .before .before .before .before .before .before .before .before in
-    at-clear .clear2 .kept .0 ∙ at-source .before .before .before .before .before .part-voices .kept .1 .1 .1 .1 .0
+    let at-keys = at-clear .before .before .before in
+    let at-staff = at-keys .before .before .before .before .before in
+    let at-lens = at-staff .before .before .before .before .before in
+    let at-source = at-lens .before .before .before in
+    let at-part-voices = at-source .before .before .before .before .before in
+    at-clear .clear2 .kept .0 ∙ at-part-voices .part-voices .kept .1 .1 .1 .1 .0
 
 returns-2 : tie.Need-returns-2
 returns-2 c =
     let at-clear = c .before .before .before in
-    let at-staff = at-clear .before .before .before .before .before .before .before .before in
+    let at-keys = at-clear .before .before .before in
+    let at-staff = at-keys .before .before .before .before .before in
     let at-cut2 = at-staff .before .before .before .before .before .before in
     let at-source = at-cut2 .before .before in
     let at-if1 = at-source .before in
-    let voices = at-if1 .before .before .before .before .part-voices in
+    let at-part-voices = at-if1 .before .before .before .before in
+    let voices = at-part-voices .part-voices in
     rw (c .answer .ensures)
     (staff-called (at-clear .clear2 .ensures ∙ ap (λ (n : ℕ). replicate n 0) (voices .kept .1 .1 .1 .1 .0))
     (staff-given (voices .ensures .ready (at-if1 .if1 .left)) (at-source .bar-source .ensures) (at-cut2 .before .cut .ensures) (at-cut2 .cut2 .ensures)

@@ -38,8 +38,10 @@ measure-staff-requires c κs =
 same-length-2 : tie.Need-same-length-2
 same-length-2 c =
     let at-clear = c .before .before in
-    let at-source = at-clear .before .before .before .before .before .before .before in
-    at-clear .clear2 .kept .0 ∙ at-source .before .before .before .before .before .part-voices .kept .1 .1 .1 .1 .0
+    let at-lens = at-clear .before .before .before .before in
+    let at-source = at-lens .before .before .before in
+    let at-part-voices = at-source .before .before .before .before .before in
+    at-clear .clear2 .kept .0 ∙ at-part-voices .part-voices .kept .1 .1 .1 .1 .0
 
 returns-2 : tie.Need-returns-2
 returns-2 c =

@@ -24,23 +24,27 @@ take-pending-requires c κs =
 
 put-requires : tie.Need-put-requires Inv-loop μ-loop
 put-requires c κs =
-    let o = c .before .before .before .before .before .before .before .before .before .before .pre in
-    let inv = c .before .before .before .before .before .before .loop .inv in
+    let at-loop = c .before .before .before .before .before .before in
+    let at-start = at-loop .before .before .before .before in
+    let o = at-start .pre in
+    let inv = at-loop .loop .inv in
     let p = inv .reach (o .tails) (o .count) (o .x) (o .pairs) in
     rw (c .unmatched-on .ensures)
     (taken-packs p (c .before .before .before .take-pending .ensures (o .tails) _ _ (p .taking .queues) (p .taking .later)) (o .numbered), omega (arith, inv .few, o .room))
 
 loop-again : tie.Need-loop-again Inv-loop μ-loop
 loop-again c =
-    let inv = c .before .before .before .before .before .before .before .before .before .before .before .loop .inv in
-    let put = c .before .before .before .before .put .ensures in
+    let at-put = c .before .before .before .before in
+    let at-take-pending = at-put .before .before .before .before in
+    let inv = at-take-pending .before .before .before .loop .inv in
+    let put = at-put .put .ensures in
     record {
       few = omega (arith, inv .few, put .count);
       places = places-kept put ∙ inv .places;
       details = details-kept put ∙ inv .details;
       reach = λ t m x y.
           let p = inv .reach t m x y in
-          puts-more p (c .before .before .before .before .before .before .before .before .take-pending .ensures t m _ (p .taking .queues) (p .taking .later)) (rw (c .before .before .before .before .before .unmatched-on .ensures) at put);
+          puts-more p (at-take-pending .take-pending .ensures t m _ (p .taking .queues) (p .taking .later)) (rw (at-put .before .unmatched-on .ensures) at put);
     }
 
 pub take-all-spec : {M : Type 1} → statement M

@@ -76,9 +76,10 @@ cut-chord-requires c κs =
 
 push-requires-2 : tie.Need-push-requires-2
 push-requires-2 c κs =
-    let d = c .before .before .before .before .before .before .before .before in
+    let at-cut-chord = c .before .before .before in
+    let d = at-cut-chord .before .before .before .before .before in
     let f = is-squeezed d in
-    (f .voice, rw (c .before .before .before .cut-chord .ensures .kept) (entry (d .before .before) .pre .cells .area), f .few)
+    (f .voice, rw (at-cut-chord .cut-chord .ensures .kept) (entry (d .before .before) .pre .cells .area), f .few)
 
 returns : tie.Need-returns
 returns c =
@@ -88,9 +89,10 @@ returns c =
 
 returns-2 : tie.Need-returns-2
 returns-2 c =
-    let d = c .before .before .before .before .before .before .before in
+    let at-last-of = c .before .before .before .before in
+    let d = at-last-of .before .before .before in
     let read = d .before .before .before .chord-at in
-    placed-together (entry (d .before .before) .pre) (chordOf (read .result)) (read .ensures) (c .before .before .before .before .last-of .ensures)
+    placed-together (entry (d .before .before) .pre) (chordOf (read .result)) (read .ensures) (at-last-of .last-of .ensures)
     (is-together d) (c .before .before .give-keys .ensures)
 
 returns-3 : tie.Need-returns-3
