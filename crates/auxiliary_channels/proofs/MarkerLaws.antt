@@ -1,7 +1,8 @@
 -- The array of bases after the markers read so far: what it holds was marked, and unless there is a clash, every marker is held.
 use Prim.Native.Nat.{ℕ, suc, _+_, _≤_, _<_}
 use mathlib.Core.Bool.{true, false, true≢false, false≢true, and-eq-true-iff}
-use mathlib.Core.List.{List, [], _∷_, _++_, map, foldl, append-nil, List·Memᴰ, List·Memᴰ·head, List·Memᴰ·not-nil, List·Memᴰ·eq-of-singleton, Memᴰ·append-left, Memᴰ·append-right, List·Memᴰ·append-cases}
+use mathlib.Core.List.{List, [], _∷_, _++_, map, foldl, append-nil, List·Memᴰ, List·Memᴰ·head, List·Memᴰ·not-nil}
+use mathlib.Core.List.{List·Memᴰ·eq-of-singleton, Memᴰ·append-left, Memᴰ·append-right, List·Memᴰ·append-cases}
 use mathlib.Core.Logic.{inl, inr, ⊎-elim}
 use mathlib.Core.Path.{_≡_, refl, sym, _∙_, subst}
 use native.Mathlib.Omega.{arith}
@@ -83,7 +84,12 @@ module _ {ms : List Marker} {q : Pairs} (b s : ℕ) (hb : b < 16) (hs : s < 16) 
         size = noted .size;
         marked = λ t h k. Memᴰ·append-left _ (noted .marked t h k);
         held = λ c. absurd (true≢false c);
-        two = λ c. (marker (getD (q .bases) s 0) s, marker b s, record { first = Memᴰ·append-left _ (noted .marked s hs l); second = new; spare = refl; bases = ne });
+        two =
+            λ c. (
+              marker (getD (q .bases) s 0) s,
+              marker b s,
+              record { first = Memᴰ·append-left _ (noted .marked s hs l); second = new; spare = refl; bases = ne },
+            );
       }
 
   noted-set : 16 ≤ getD (q .bases) s 0 → Noted more (record { bases = set (q .bases) s b; clash = q .clash })
@@ -102,7 +108,8 @@ module _ {ms : List Marker} {q : Pairs} (b s : ℕ) (hb : b < 16) (hs : s < 16) 
         held = λ c. held-more (set (q .bases) s b) (λ m i.
             let h = noted .held c m i in
             let other : m .spare ≡ s → ⊥ = (λ e. let g : getD (q .bases) s 0 ≡ m .base = (rw e at (h .is)) in omega (arith, h .base)) in
-            record { spare = h .spare; base = h .base; is = getD-set-other (q .bases) s (m .spare) b 0 other ∙ h .is }) (record { spare = hs; base = hb; is = at });
+            record { spare = h .spare; base = h .base; is = getD-set-other (q .bases) s (m .spare) b 0 other ∙ h .is })
+            (record { spare = hs; base = hb; is = at });
         two = two-more;
       }
 

@@ -143,8 +143,18 @@ sounding-any {b} {e} {cs} {i} bar l s =
     (elim (by-lt i (length cs)) [
       | inl h ↦
           elim (by-lt (chordOf cs i .start) e) [
-            | inl early ↦ rw (next cs i h g, keep-here b e (chordOf cs i) (drop (i + 1) cs) (open? cs i h g) early, lt-ltb i (length cs) h, lt-ltb (chordOf cs i .start) e early)
-            | inr late ↦ rw (next cs i h g, keep-late b e (chordOf cs i) (drop (i + 1) cs) (here cs i h g .line) late, le-ltb (chordOf cs i .start) e late, and-false (ltb i (length cs)))
+            | inl early ↦ rw (
+              next cs i h g,
+              keep-here b e (chordOf cs i) (drop (i + 1) cs) (open? cs i h g) early,
+              lt-ltb i (length cs) h,
+              lt-ltb (chordOf cs i .start) e early,
+            )
+            | inr late ↦ rw (
+              next cs i h g,
+              keep-late b e (chordOf cs i) (drop (i + 1) cs) (here cs i h g .line) late,
+              le-ltb (chordOf cs i .start) e late,
+              and-false (ltb i (length cs)),
+            )
           ]
       | inr h ↦ rw (drop-of-length-le cs h, le-ltb i (length cs) h)
     ])

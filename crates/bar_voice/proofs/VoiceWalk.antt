@@ -32,7 +32,10 @@ can-read l j h = (l .area, l .four, omega (arith, l .room), l .numbers j h)
 module _ {t : ℕ} {cs : List Chord} {i : ℕ} (p : Past t cs i) where
   pub past-more : i < length cs → chordOf cs i .end ≤ t → Past t cs (i + 1)
   past-more h over =
-      record { within = omega arith; over = rw (add-one, take-suc cs i noChord h) (All-append (λ (c : Chord). c .end ≤ t) (take i cs) (chordOf cs i ∷ []) (p .over) (over, tt)) }
+      record {
+        within = omega arith;
+        over = rw (add-one, take-suc cs i noChord h) (All-append (λ (c : Chord). c .end ≤ t) (take i cs) (chordOf cs i ∷ []) (p .over) (over, tt));
+      }
 
   pub past-later : {u : ℕ} → t ≤ u → Past u cs i
   past-later {u} h = record { within = p .within; over = All-imp (λ (c : Chord) (o : c .end ≤ t). omega arith) (take i cs) (p .over) }

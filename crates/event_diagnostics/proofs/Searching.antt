@@ -61,7 +61,8 @@ module _ {g : Group} {track at : ℕ} {ds ws p₀ d₀ : List ℕ} {i tick next 
     pub tick-below : tick + getD ds i 0 < 2 ^ 47
     tick-below = omega (arith, next-tick, track-sum (can .events) (i + 1) (omega arith) .1)
 
-    pub searching-more : {r : ℕ} {p₁ d₁ : List ℕ} → Found (foundOne g track (record { number = i; tick = tick + getD ds i 0; word = getD ws i 0 })) next p d r p₁ d₁
+    pub searching-more : {r : ℕ} {p₁ d₁ : List ℕ}
+        → Found (foundOne g track (record { number = i; tick = tick + getD ds i 0; word = getD ws i 0 })) next p d r p₁ d₁
         → r ≤ next + 1 → Searching g track at ds ws p₀ d₀ (i + 1) (tick + getD ds i 0) r p₁ d₁
     searching-more f few =
         record {
@@ -129,7 +130,9 @@ module _ (l t w : ℕ) where
   off-none z = rw (z, and-false)
 
   pub off-is : 2 ≤ kindOf w → kindOf w ≤ 3 → (l ≡ 0 → ⊥) → offMeasure l t w ≡ not (eqb (t % l) 0)
-  off-is a b n = ⊎-elim (λ k. rw (eq-eqb (kindOf w) 2 k, ne-eqb l 0 n) later) (λ k. rw (ne-eqb (kindOf w) 2 k, eq-eqb (kindOf w) 3 (omega arith), ne-eqb l 0 n) later) (by-eq (kindOf w) 2)
+  off-is a b n =
+      ⊎-elim (λ k. rw (eq-eqb (kindOf w) 2 k, ne-eqb l 0 n) later) (λ k. rw (ne-eqb (kindOf w) 2 k, eq-eqb (kindOf w) 3 (omega arith), ne-eqb l 0 n) later)
+      (by-eq (kindOf w) 2)
     where
       later : ltb 0 t && not (eqb (t % l) 0) && true ≡ not (eqb (t % l) 0)
       later =

@@ -55,7 +55,8 @@ module _ (x : Pairing) (e : Event) where
   outcome-on on = ap (λ (b : Bool). cond b Started (cond (isOff (e .word)) (offFinds found) Other)) on
 
   outcome-other : isOn (e .word) ≡ false → isOff (e .word) ≡ false → outcome x e ≡ Other
-  outcome-other on off = ap (λ (b : Bool). cond b Started (cond (isOff (e .word)) (offFinds found) Other)) on ∙ ap (λ (b : Bool). cond b (offFinds found) Other) off
+  outcome-other on off =
+      ap (λ (b : Bool). cond b Started (cond (isOff (e .word)) (offFinds found) Other)) on ∙ ap (λ (b : Bool). cond b (offFinds found) Other) off
 
   outcome-off : isOn (e .word) ≡ false → isOff (e .word) ≡ true → outcome x e ≡ offFinds found
   outcome-off on off =
@@ -88,7 +89,9 @@ module _ {x : Pairing} {e : Event} {n m : ℕ} {h t : List (List ℕ)} {w : List
   stepped-unmatched on off z q =
       record {
         is = sym (outcome-off x e on off ∙ ap (λ (l : List NoteEvent). offFinds (head? l)) z);
-        queues = afterwards (ap (λ (y : Pairing). y .pending) (after-off x e on off) ∙ ap (λ (l : List NoteEvent). takeOff (noteEvent e) x (head? l) .pending) z) q;
+        queues =
+            afterwards (ap (λ (y : Pairing). y .pending) (after-off x e on off) ∙ ap (λ (l : List NoteEvent). takeOff (noteEvent e) x (head? l) .pending) z)
+            q;
         front = refl;
       }
 
@@ -97,7 +100,10 @@ module _ {x : Pairing} {e : Event} {n m : ℕ} {h t : List (List ℕ)} {w : List
   stepped-closed {r} on off p =
       record {
         is = sym (outcome-off x e on off ∙ ap offFinds (p .first) ∙ rw (p .is .tick, p .is .number));
-        queues = afterwards (ap (λ (y : Pairing). y .pending) (after-off x e on off) ∙ ap (λ (o : Option NoteEvent). takeOff (noteEvent e) x o .pending) (p .first)) (p .queues (noteEvent e) refl refl);
+        queues =
+            afterwards
+            (ap (λ (y : Pairing). y .pending) (after-off x e on off) ∙ ap (λ (o : Option NoteEvent). takeOff (noteEvent e) x o .pending) (p .first))
+            (p .queues (noteEvent e) refl refl);
         front = refl;
       }
 
@@ -128,7 +134,9 @@ does x e {r} q =
     found-one : (o : Option NoteEvent) → found x e ≡ o → isOn (e .word) ≡ false → isOff (e .word) ≡ true → Does x e (offFinds o)
     found-one none f on off = after-off x e on off ∙ ap (takeOff (noteEvent e) x) f
     found-one (some s) f on off =
-        let a = at-true (byteA (e .word)) (byteB (e .word)) s (first-has (λ (y : NoteEvent). sameKey (noteEvent e) y ≡ true) (keep (sameKey (noteEvent e)) (x .pending)) s f (keep-passes (sameKey (noteEvent e)) (x .pending))) in
+        let a = at-true (byteA (e .word)) (byteB (e .word)) s
+        (first-has (λ (y : NoteEvent). sameKey (noteEvent e) y ≡ true) (keep (sameKey (noteEvent e)) (x .pending)) s f
+        (keep-passes (sameKey (noteEvent e)) (x .pending))) in
         record {
           start = s;
           first = f;

@@ -31,7 +31,8 @@ isEnd? c n = eqb (n .start) (c .start) && eqb (n .end) (c .end)
 pub record Partly (f : ℕ → RawNote) (m : ℕ) (c : Played) (i : ℕ) (x : Group) : Type 0 where
   pub ended : (x .ended || any (isEnd? c) (restOf f m i)) ≡ any (isEnd? c) (map f (count 0 m))
   pub low : (k : ℕ) → k < 64 → max (bit k (x .low)) (flag (any (isNote? (c .start) k) (restOf f m i))) ≡ flag (any (isNote? (c .start) k) (map f (count 0 m)))
-  pub high : (k : ℕ) → k < 64 → max (bit k (x .high)) (flag (any (isNote? (c .start) (64 + k)) (restOf f m i))) ≡ flag (any (isNote? (c .start) (64 + k)) (map f (count 0 m)))
+  pub high : (k : ℕ) → k < 64
+      → max (bit k (x .high)) (flag (any (isNote? (c .start) (64 + k)) (restOf f m i))) ≡ flag (any (isNote? (c .start) (64 + k)) (map f (count 0 m)))
 
 abbrev pub noGroup : Group
 noGroup = record { low = 0; high = 0; ended = false }
@@ -48,8 +49,18 @@ module _ (f : ℕ → RawNote) (m : ℕ) (c : Played) where
   partly-start i l h =
       record {
         ended = sym (none-before f m (isEnd? c) i l (λ j o. other-note (f j .start) (c .start) _ (λ e. omega (arith, h j o))));
-        low = λ k o. omega (arith, none-yet k, ap flag (none-before f m (isNote? (c .start) k) i l (λ j b. other-note (f j .start) (c .start) _ (λ e. omega (arith, h j b)))));
-        high = λ k o. omega (arith, none-yet k, ap flag (none-before f m (isNote? (c .start) (64 + k)) i l (λ j b. other-note (f j .start) (c .start) _ (λ e. omega (arith, h j b)))));
+        low =
+            λ k o. omega (
+              arith,
+              none-yet k,
+              ap flag (none-before f m (isNote? (c .start) k) i l (λ j b. other-note (f j .start) (c .start) _ (λ e. omega (arith, h j b)))),
+            );
+        high =
+            λ k o. omega (
+              arith,
+              none-yet k,
+              ap flag (none-before f m (isNote? (c .start) (64 + k)) i l (λ j b. other-note (f j .start) (c .start) _ (λ e. omega (arith, h j b)))),
+            );
       }
 
   module _ (i : ℕ) (x r : Group) (h : i < m) (here : f i .start ≡ c .start) where
@@ -70,9 +81,14 @@ module _ (f : ℕ → RawNote) (m : ℕ) (c : Played) where
 
   partly-end : (i : ℕ) (x : Group) → ((j : ℕ) → i ≤ j → j < m → c .start < f j .start) → Partly f m c i x → Gathered (map f (count 0 m)) c x
   partly-end i x h p =
-      let none : (k : ℕ) → any (isNote? (c .start) k) (restOf f m i) ≡ false = λ k. none-left f m (isNote? (c .start) k) i (λ j l o. other-note (f j .start) (c .start) _ (λ e. omega (arith, h j l o))) in
+      let none : (k : ℕ) → any (isNote? (c .start) k) (restOf f m i) ≡ false = λ k. none-left f m (isNote? (c .start) k) i
+      (λ j l o. other-note (f j .start) (c .start) _ (λ e. omega (arith, h j l o))) in
       record {
-        ended = sym (or-false (x .ended)) ∙ sym (ap (λ (b : Bool). x .ended || b) (none-left f m (isEnd? c) i (λ j l o. other-note (f j .start) (c .start) _ (λ e. omega (arith, h j l o))))) ∙ p .ended;
+        ended =
+            sym (or-false (x .ended))
+            ∙ sym
+            (ap (λ (b : Bool). x .ended || b) (none-left f m (isEnd? c) i (λ j l o. other-note (f j .start) (c .start) _ (λ e. omega (arith, h j l o)))))
+            ∙ p .ended;
         low = λ k o. omega (arith, p .low k o, ap flag (none k));
         high = λ k o. omega (arith, p .high k o, ap flag (none (64 + k)));
       }

@@ -34,9 +34,11 @@ module _ (p n m offs : ℕ) (w : List ℕ) (o : offs ≡ offCount p (rawsAt n m 
 
 -- ---- the answer
 
-pub fits-of : {bars : ℕ} {bs : List Bar} {counts heads keys : List ℕ} {r : Bool} → Shapes bars counts heads keys r → bars ≡ length bs → r ≡ true → Fits bs counts heads keys
+pub fits-of : {bars : ℕ} {bs : List Bar} {counts heads keys : List ℕ} {r : Bool} → Shapes bars counts heads keys r → bars ≡ length bs → r ≡ true
+    → Fits bs counts heads keys
 fits-of {bars} {bs} {counts} {heads} {keys} s e y =
-    let t = says-and4 (says-eq (length counts) (4 * bars)) (says-eq (length heads) (sum counts)) (says-eq (length keys) (2 * sum counts)) (says-flag (headsMean? heads)) .0 (sym (s .is) ∙ y) in
+    let t = says-and4 (says-eq (length counts) (4 * bars)) (says-eq (length heads) (sum counts)) (says-eq (length keys) (2 * sum counts))
+    (says-flag (headsMean? heads)) .0 (sym (s .is) ∙ y) in
     record { few = s .few y; small = s .small y; bars = omega (arith, t .0); heads-fit = t .1; keys-fit = t .2 }
 
 module _ (p g : ℕ) (ns : List RawNote) (s : StaffArrays) {u limit : ℕ} {bs : List Bar} {x : Measured} (eu : u ≡ smallest p) (mx : Measures limit bs u x) where

@@ -57,7 +57,8 @@ pub record Measuring (ds ws : List ℕ) (p end limit u : ℕ) (walker : Walker) 
   pub evens : (x .even && every (even u) (barsAhead ds ws end (limit - x .bars) walker)) ≡ every (even u) (barsIn limit p (eventsOf ds ws) end)
 
 module _ {ds ws : List ℕ} {p end limit u : ℕ} where
-  pub measuring-start : {walker : Walker} → Settled ds ws (firstWalker ds ws p) walker → Measuring ds ws p end limit u walker (record { bars = 0; end = 0; even = true })
+  pub measuring-start : {walker : Walker} → Settled ds ws (firstWalker ds ws p) walker
+      → Measuring ds ws p end limit u walker (record { bars = 0; end = 0; even = true })
   measuring-start s =
       let all = ahead-all end limit p s in
       record {
@@ -86,7 +87,11 @@ module _ {ds ws : List ℕ} {p end limit u : ℕ} where
       evens-step : (bs : List Bar) → barsAhead ds ws end (limit - x .bars) walker ≡ barOf walker ∷ bs
           → ((x .even && eqb (len % u) 0) && every (even u) bs) ≡ every (even u) (barsIn limit p (eventsOf ds ws) end)
       unfolding every
-      evens-step bs q = rw long (and-assoc (x .even) (eqb (barOf walker .len % u) 0) (every (even u) bs) ∙ sym (ap (λ (l : List Bar). x .even && every (even u) l) q) ∙ now .evens)
+      evens-step bs q =
+          rw long
+          (and-assoc (x .even) (eqb (barOf walker .len % u) 0) (every (even u) bs)
+          ∙ sym (ap (λ (l : List Bar). x .even && every (even u) l) q)
+          ∙ now .evens)
 
       pub measuring-last : end ≤ nextOf walker .start → Measures limit (barsIn limit p (eventsOf ds ws) end) u (withBar x len (nextOf walker .start) u)
       unfolding every

@@ -27,7 +27,8 @@ use Rattle.proofread_staff.proofs.Points.{Fours, right-by-voices}
 
 -- ---- four voices a bar
 
-fours : (k : ℕ) (cs : List ℕ) (xs : List Item) → length cs ≡ 4 * k → (length (byFours (cutBy cs xs)) ≡ k) × All (λ (bar : List (List Item)). length bar ≡ 4) (byFours (cutBy cs xs))
+fours : (k : ℕ) (cs : List ℕ) (xs : List Item) → length cs ≡ 4 * k
+    → (length (byFours (cutBy cs xs)) ≡ k) × All (λ (bar : List (List Item)). length bar ≡ 4) (byFours (cutBy cs xs))
 unfolding byFours cutBy
 fours zero [] xs h = (refl, tt)
 fours zero (c ∷ cs) xs h = absurd (omega arith)
@@ -35,7 +36,8 @@ fours (suc k) cs xs h =
     let more = fours k (drop 4 cs) (drop (sum (take 4 cs)) xs) (simp length-drop (omega arith)) in
     rw (four-cut cs xs (omega arith)) (ap suc (more .0), (refl, more .1))
 
-pub fours-read : (bs : List Bar) (counts hs ks : List ℕ) → length counts ≡ 4 * length bs → Fours bs (readStaff (record { counts = counts; heads = hs; keys = ks }))
+pub fours-read : (bs : List Bar) (counts hs ks : List ℕ) → length counts ≡ 4 * length bs
+    → Fours bs (readStaff (record { counts = counts; heads = hs; keys = ks }))
 fours-read bs counts hs ks h = let x = fours (length bs) counts (readItems hs ks) h in record { same = x .0; four = x .1 }
 
 -- ---- notes found
@@ -102,7 +104,9 @@ pub found-is : (p : ℕ) (bs : List Bar) (st : Staff) (g n m e : ℕ) (w : List 
 found-is p bs st g n m e w k =
     every-count (found? g n e w) (λ i. noteFound? e (played p bs st) (snapAt g n w i)) m 0
     (λ j a b. ap (λ (x : Bool). not (ltb (snapAt g n w j .start) e) || x)
-    (ap (λ (x : ℕ). eqb x 1) (k .mark j (omega arith)) ∙ flag-is (any (hears? (snapAt g n w j)) (chordsUpTo p bs st 4)) ∙ heard-anywhere p bs st (hears? (snapAt g n w j))))
+    (ap (λ (x : ℕ). eqb x 1) (k .mark j (omega arith))
+    ∙ flag-is (any (hears? (snapAt g n w j)) (chordsUpTo p bs st 4))
+    ∙ heard-anywhere p bs st (hears? (snapAt g n w j))))
     ∙ sym (every-map (noteFound? e (played p bs st)) (snapAt g n w) (count 0 m))
 
 pub notes-snapped : (g n m : ℕ) (w : List ℕ) → notesAt g n m w ≡ map (snapped g) (rawsAt n m w)

@@ -57,7 +57,8 @@ full-reached p v start until is l h =
     others (i ∷ is) q = let r = eqb-true (start + sum (map (itemTicks p) (i ∷ is))) until q in omega arith
 
 -- `at` is the voice at the bar's start, s the same after its items
-module _ {g n m e p start : ℕ} (until v : ℕ) {is : List Item} {w w′ : List ℕ} (voice : Voice) {s : Voice} (at : Voice) (same : (cs : List Played) → heardOf at cs ≡ heardOf voice cs)
+module _ {g n m e p start : ℕ} (until v : ℕ) {is : List Item} {w w′ : List ℕ} (voice : Voice) {s : Voice} (at : Voice)
+    (same : (cs : List Played) → heardOf at cs ≡ heardOf voice cs)
     (tick : at .tick ≡ start) (t : TakesAll g n m e p is w w′ at s) where
   abbrev heard : List Played → Heard
   heard cs = run p e (notesAt g n m w) (heardOf voice cs) (timedFrom p start is)
@@ -78,7 +79,8 @@ module _ {g n m e p start : ℕ} (until v : ℕ) {is : List Item} {w w′ : List
       }
 
   -- r is s with the test at the bar's end
-  pub bar-full : {r : Voice} → start ≤ until → s .ok ≡ true → r .ok ≡ full? p v start until is → tieOf r ≡ tieOf s → chordOf r ≡ chordOf s → r .from ≡ s .from → r .chord ≡ s .chord → r .tick ≡ s .tick
+  pub bar-full : {r : Voice} → start ≤ until → s .ok ≡ true → r .ok ≡ full? p v start until is → tieOf r ≡ tieOf s → chordOf r ≡ chordOf s
+      → r .from ≡ s .from → r .chord ≡ s .chord → r .tick ≡ s .tick
       → ReadsBar g n m e p v start until is w w′ voice r
   bar-full {r} l ok o tie chord from last at-tick =
       let st : r .chord .start ≡ s .chord .start = ap (λ (x : Chord). x .start) last in

@@ -17,7 +17,8 @@ use Rattle.bar_voice.specs.Voices.{voiceOf, VoiceHeld, Past, voiceFrom}
 
 -- ---- one voice
 
-pub record CanCount (write : Bool) (p : ℕ) (isFirst : Bool) (cs : List Chord) (next : ℕ) (bar : Measure) (place from : ℕ) (counts heads keys : List ℕ) : Type 0 where
+pub record CanCount (write : Bool) (p : ℕ) (isFirst : Bool) (cs : List Chord) (next : ℕ) (bar : Measure) (place from : ℕ) (counts heads keys : List ℕ) :
+    Type 0 where
   pub some-bar : bar .start < bar .end
   pub short : bar .end - bar .start < 2 ^ 32
   pub past : Past (bar .start) cs next

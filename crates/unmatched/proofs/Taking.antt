@@ -71,7 +71,8 @@ pub record Reach (h₀ : List (List ℕ)) (w : List ℕ) (n waiting track at : �
   pub reach : (t : List (List ℕ)) (m : ℕ) (x : Pairing) → Pairs h₀ t w n m waiting x → Puts h t w n m track at x p₀ d₀ left from next p d
 
 -- ---- a track: its offs without ons, then its ons without offs
-pub notes-found : {h h′ t : List (List ℕ)} {w ds ws : List ℕ} {n track at r : ℕ} {p₀ d₀ p d p₁ d₁ : List ℕ} {s : Seen} → PairedAll h t w ds ws n track at p₀ d₀ s p d
+pub notes-found : {h h′ t : List (List ℕ)} {w ds ws : List ℕ} {n track at r : ℕ} {p₀ d₀ p d p₁ d₁ : List ℕ} {s : Seen}
+    → PairedAll h t w ds ws n track at p₀ d₀ s p d
     → AllTaken h′ track (pairing (noteEvents (eventsOf ds ws))) (s .next) p d r p₁ d₁
     → Emptied h′ t × FoundIn (unmatchedFound track (eventsOf ds ws)) (length ds) at p₀ d₀ r p₁ d₁
 notes-found {ds = ds} {ws = ws} {track = track} a b =

@@ -57,4 +57,5 @@ module _ (limit : ℕ) where
 pub voices-small : (g : ℕ) (ns : List RawNote) → g ≤ largestSize → All (InRange (2 ^ 47)) ns → All (All (Small (2 ^ 48))) (voices g ns)
 voices-small g ns l h =
     voices-within (2 ^ 48) g ns
-    (All-map (SmallNote (2 ^ 48)) (snapped g) (λ n (r : InRange (2 ^ 47) n). (omega (arith, snap-le g (n .start)), omega (arith, snap-le g (n .start), snap-le g (n .end)))) ns h)
+    (All-map (SmallNote (2 ^ 48)) (snapped g)
+    (λ n (r : InRange (2 ^ 47) n). (omega (arith, snap-le g (n .start)), omega (arith, snap-le g (n .start), snap-le g (n .end)))) ns h)

@@ -88,7 +88,8 @@ module _ (c : Chord) where
 
   module _ (vs : List Voice) where
     free-position : position (isFree c) vs ≡ position (λ e. leb e (c .start)) (map voiceEnd vs)
-    free-position = position-agree (isFree c) (λ v. leb (voiceEnd v) (c .start)) vs (All-all free-is vs) ∙ sym (position-map (λ e. leb e (c .start)) voiceEnd vs)
+    free-position =
+        position-agree (isFree c) (λ v. leb (voiceEnd v) (c .start)) vs (All-all free-is vs) ∙ sym (position-map (λ e. leb e (c .start)) voiceEnd vs)
 
     together-position : any (isFree c) vs ≡ false → position (startsWith c) vs ≡ position (λ s. eqb s (c .start)) (map voiceStart vs)
     together-position e =

@@ -2,7 +2,8 @@
 use mathlib.Core.Path.{_∙_}
 use borrow.Author.Needs.{needs}
 use Rattle.automation_events.specs.declared.Kind.the-variants.{Bend, Controller, Program, Pressure}
-use Rattle.automation_events.proofs.StageLaws.{stage-start, stage-more, stage-room, stage-end, fits-bends, fits-controllers, fits-programs, fits-pressures}
+use Rattle.automation_events.proofs.StageLaws.{stage-start, stage-more, stage-room, stage-end, fits-bends}
+use Rattle.automation_events.proofs.StageLaws.{fits-controllers, fits-programs, fits-pressures}
 use Rattle.automation_events.proofs.collect_automation.Statement.{statement}
 use Rattle.automation_events.proofs.collect_automation.Tie as tie
 
@@ -67,7 +68,10 @@ same-length c =
     let c₂ = at-out2 .before .before .before in
     let at-out = c₂ .before .before .before .before in
     let c₁ = at-out .before .before .before in
-    c₄ .collect-kind4 .kept .1 .1 .1 .1 .0 ∙ c₃ .collect-kind3 .kept .1 .1 .1 .1 .0 ∙ c₂ .collect-kind2 .kept .1 .1 .1 .1 .0 ∙ c₁ .collect-kind .kept .1 .1 .1 .1 .0
+    c₄ .collect-kind4 .kept .1 .1 .1 .1 .0
+    ∙ c₃ .collect-kind3 .kept .1 .1 .1 .1 .0
+    ∙ c₂ .collect-kind2 .kept .1 .1 .1 .1 .0
+    ∙ c₁ .collect-kind .kept .1 .1 .1 .1 .0
 
 same-length-2 : tie.Need-same-length-2
 same-length-2 c =
@@ -78,7 +82,10 @@ same-length-2 c =
     let c₂ = at-out2 .before .before .before in
     let at-out = c₂ .before .before .before .before in
     let c₁ = at-out .before .before .before in
-    c₄ .collect-kind4 .kept .1 .1 .1 .1 .1 .0 ∙ c₃ .collect-kind3 .kept .1 .1 .1 .1 .1 .0 ∙ c₂ .collect-kind2 .kept .1 .1 .1 .1 .1 .0 ∙ c₁ .collect-kind .kept .1 .1 .1 .1 .1 .0
+    c₄ .collect-kind4 .kept .1 .1 .1 .1 .1 .0
+    ∙ c₃ .collect-kind3 .kept .1 .1 .1 .1 .1 .0
+    ∙ c₂ .collect-kind2 .kept .1 .1 .1 .1 .1 .0
+    ∙ c₁ .collect-kind .kept .1 .1 .1 .1 .1 .0
 
 returns : tie.Need-returns
 returns c =

@@ -27,7 +27,9 @@ put-chosen-requires : tie.Need-put-chosen-requires Inv-loop μ-loop
 put-chosen-requires c κs =
     let at-loop-test = c .before .before .before .before .before in
     let start = at-loop-test .before .before .before .before .before .before in
-    rw (c .before .before .before .after .ensures) (midway-can (start .pre .0) (start .args .choice) (start .args .n) (start .pre .1) (at-loop-test .before .loop .inv) (at-loop-test .loop-test .taken))
+    rw (c .before .before .before .after .ensures)
+    (midway-can (start .pre .0) (start .args .choice) (start .args .n) (start .pre .1) (at-loop-test .before .loop .inv)
+    (at-loop-test .loop-test .taken))
 
 loop-again : tie.Need-loop-again Inv-loop μ-loop
 loop-again c =

@@ -20,7 +20,12 @@ loop-holds : tie.Need-loop-holds Inv-loop μ-loop
 loop-holds c = (omega arith, refl)
 
 loop-again : tie.Need-loop-again Inv-loop μ-loop
-loop-again c = (omega arith, rw (c .take-marker .ensures) (foldl-left taken _ (c .before .before .before .loop .i) (c .before .before .before .loop .pairs) 0 (omega arith) ∙ c .before .before .before .loop .inv .1))
+loop-again c = (
+  omega arith,
+  rw (c .take-marker .ensures)
+      (foldl-left taken _ (c .before .before .before .loop .i) (c .before .before .before .loop .pairs) 0 (omega arith)
+      ∙ c .before .before .before .loop .inv .1),
+)
 
 returns : tie.Need-returns Inv-loop μ-loop
 returns c = sym (foldl-end taken _ (c .before .loop .i) (c .before .loop .pairs) (omega arith)) ∙ c .before .loop .inv .1

@@ -4,7 +4,8 @@ use mathlib.Core.Path.{refl, sym, _∙_}
 use native.Mathlib.Omega.{arith}
 use borrow.Author.Tests.{not-true, not-false}
 use lib.ListN.{length}
-use Rattle.auxiliary_channels.proofs.MirrorLaws.{Abreast, place-tick, place-start, place-behind, same-inside, abreast-start, abreast-differ, abreast-more, abreast-end}
+use Rattle.auxiliary_channels.proofs.MirrorLaws.{Abreast, place-tick, place-start, place-behind, same-inside}
+use Rattle.auxiliary_channels.proofs.MirrorLaws.{abreast-start, abreast-differ, abreast-more, abreast-end}
 use Rattle.auxiliary_channels.proofs.mirrored_automation.Statement.{statement}
 use Rattle.auxiliary_channels.proofs.mirrored_automation.Tie as tie
 
@@ -34,7 +35,8 @@ returns : tie.Need-returns Inv-loop μ-loop
 returns c =
     let at-loop = c .before .before .before .before in
     let at-start = at-loop .before .before .before .before .before in
-    abreast-differ (at-start .pre) (at-loop .loop .inv) (rw (← at-start .pre .same) (c .before .before .if1 .taken)) (sym (c .before .same-message .ensures) ∙ not-true _ (c .if2 .taken))
+    abreast-differ (at-start .pre) (at-loop .loop .inv) (rw (← at-start .pre .same) (c .before .before .if1 .taken))
+    (sym (c .before .same-message .ensures) ∙ not-true _ (c .if2 .taken))
 
 behind-requires : tie.Need-behind-requires Inv-loop μ-loop
 behind-requires c κs =
@@ -53,7 +55,8 @@ behind-requires-2 : tie.Need-behind-requires-2 Inv-loop μ-loop
 behind-requires-2 c κs =
     let at-loop = c .before .before .before .before .before .before in
     let at-start = at-loop .before .before .before .before .before in
-    let inside = same-inside (at-start .args .deltas .now) (at-start .args .words .now) (at-loop .loop .x) (at-loop .loop .y) (sym (c .before .before .before .same-message .ensures) ∙ not-false _ (c .before .before .if2 .left)) in
+    let inside = same-inside (at-start .args .deltas .now) (at-start .args .words .now) (at-loop .loop .x) (at-loop .loop .y)
+    (sym (c .before .before .before .same-message .ensures) ∙ not-false _ (c .before .before .if2 .left)) in
     (inside, place-tick (at-start .pre) (at-loop .loop .inv .atSpare .place))
 
 next-of-requires-4 : tie.Need-next-of-requires-4 Inv-loop μ-loop
@@ -62,7 +65,8 @@ next-of-requires-4 c κs =
     let at-loop = at-same-message .before .before .before in
     let at-start = at-loop .before .before .before .before .before in
     let track = at-start .pre in
-    let inside = same-inside (at-start .args .deltas .now) (at-start .args .words .now) (at-loop .loop .x) (at-loop .loop .y) (sym (at-same-message .same-message .ensures) ∙ not-false _ (c .before .before .before .if2 .left)) in
+    let inside = same-inside (at-start .args .deltas .now) (at-start .args .words .now) (at-loop .loop .x) (at-loop .loop .y)
+    (sym (at-same-message .same-message .ensures) ∙ not-false _ (c .before .before .before .if2 .left)) in
     (track, place-behind track (at-loop .loop .inv .atSpare .place) inside (c .behind2 .ensures))
 
 loop-again : tie.Need-loop-again Inv-loop μ-loop

@@ -22,7 +22,11 @@ returns : tie.Need-returns Inv-loop μ-loop
 returns c = sym (below-fails _ 16 (c .before .before .before .loop .spare) (omega arith) (ap not (sym (c .before .is-chained .ensures) ∙ c .if1 .taken)))
 
 loop-again : tie.Need-loop-again Inv-loop μ-loop
-loop-again c = (omega arith, below-more _ (c .before .before .before .loop .spare) (c .before .before .before .loop .inv .1) (ap not (sym (c .before .is-chained .ensures) ∙ c .if1 .left)))
+loop-again c = (
+  omega arith,
+  below-more _ (c .before .before .before .loop .spare) (c .before .before .before .loop .inv .1)
+      (ap not (sym (c .before .is-chained .ensures) ∙ c .if1 .left)),
+)
 
 returns-2 : tie.Need-returns-2 Inv-loop μ-loop
 returns-2 c = let end : c .before .loop .spare ≡ 16 = omega arith in sym (rw end at (c .before .loop .inv .1))

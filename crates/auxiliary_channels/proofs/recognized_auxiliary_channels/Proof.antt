@@ -22,7 +22,8 @@ returns-2 c =
 returns-3 : tie.Need-returns-3
 returns-3 c =
     let at-collect-markers = c .before .before .before .before in
-    let noted = subst (Noted (markers _)) (sym (at-collect-markers .collect-markers .ensures)) (noted-track (at-collect-markers .before .before .before .pre)) in
+    let noted = subst (Noted (markers _)) (sym (at-collect-markers .collect-markers .ensures))
+    (noted-track (at-collect-markers .before .before .before .pre)) in
     drops-chained noted (c .before .before .before .if1 .left) (sym (c .before .none-chained .ensures) ∙ c .if2 .left)
 
 pub recognized-auxiliary-channels-spec : {M : Type 1} → statement M

@@ -60,7 +60,8 @@ only-rests : (c : tie.Then1 Inv-loop μ-loop) →
     ≡ rests (quarter (given .values .now)) (given .bar .end - at .tick)
 only-rests c =
     let at-voice-chord = c .before .before .before in
-    ahead-late (voice at-voice-chord) (place at-voice-chord) (inside at-voice-chord) (at-voice-chord .before .before .loop .inv .ahead) _ (rw (ap (λ (d : Chord). d .start) (read at-voice-chord)) at (c .if1 .taken))
+    ahead-late (voice at-voice-chord) (place at-voice-chord) (inside at-voice-chord) (at-voice-chord .before .before .loop .inv .ahead) _
+    (rw (ap (λ (d : Chord). d .start) (read at-voice-chord)) at (c .if1 .taken))
 
 -- or before its end
 starts-early : (c : tie.Else1 Inv-loop μ-loop) →
@@ -120,11 +121,13 @@ loop-again c =
     let v = at-push-gap-and-chord .before .before .before .before .before .before in
     let at-start = v .before .before .before .before .before .before in
     rw (c .smaller .ensures, ap (λ (d : Chord). d .end) (read v))
-    (mid-more (at-start .pre .4) (v .before .before .loop .inv) (inside v) (starts-early (at-push-gap-and-chord .before .before .before)) (rw (read v) at (at-push-gap-and-chord .push-gap-and-chord .ensures)))
+    (mid-more (at-start .pre .4) (v .before .before .loop .inv) (inside v) (starts-early (at-push-gap-and-chord .before .before .before))
+    (rw (read v) at (at-push-gap-and-chord .push-gap-and-chord .ensures)))
 
 -- no chord is left
 none-left : (c : tie.After-loop Inv-loop μ-loop) → let at = c .before .loop in let given = c .before .before .before .before .before .args in
-    coming (quarter (given .values .now)) (given .bar .start) (given .bar .end) (drop (at .j) (voiceOf (given .n) (given .work .now) (given .v) (given .len))) (at .tick)
+    coming (quarter (given .values .now)) (given .bar .start) (given .bar .end)
+    (drop (at .j) (voiceOf (given .n) (given .work .now) (given .v) (given .len))) (at .tick)
     ≡ rests (quarter (given .values .now)) (given .bar .end - at .tick)
 none-left c =
     let given = c .before .before .before .before .before .args in

@@ -40,7 +40,8 @@ returns-2 : tie.Need-returns-2
 returns-2 c =
     let at-push-filled2 = c .before .before .before .before in
     let at-sounds = at-push-filled2 .before .before .before .before in
-    rw (ne-eqb _ _ (at-sounds .before .if1 .left), sounding at-sounds ∙ at-push-filled2 .before .before .before .if2 .taken) (at-push-filled2 .push-filled2 .ensures)
+    rw (ne-eqb _ _ (at-sounds .before .if1 .left), sounding at-sounds ∙ at-push-filled2 .before .before .before .if2 .taken)
+    (at-push-filled2 .push-filled2 .ensures)
 
 returns-3 : tie.Need-returns-3
 returns-3 c = rw (ne-eqb _ _ (c .before .before .if1 .left), sounding (c .before) ∙ c .if2 .left) (items-none _ _ _ _)

@@ -22,7 +22,9 @@ end-read : (c : tie.After-voice-chord Inv-loop μ-loop) → let given = c .befor
     c .voice-chord .result .end ≡ chordOf (voiceOf (given .n) (given .work .now) (given .v) (given .len)) (c .before .before .loop .j) .end
 end-read c =
     let given = c .before .before .before .before .args in
-    ap (λ (d : Chord). d .end) (c .voice-chord .ensures ∙ sym (voice-get (given .n) (given .work .now) (given .v) (given .len) (c .before .before .loop .j) (c .before .loop-test .taken)))
+    ap (λ (d : Chord). d .end)
+    (c .voice-chord .ensures
+    ∙ sym (voice-get (given .n) (given .work .now) (given .v) (given .len) (c .before .before .loop .j) (c .before .loop-test .taken)))
 
 returns : tie.Need-returns Inv-loop μ-loop
 returns c = record { past = c .before .before .before .before .loop .inv; here = λ h. rw (end-read (c .before .before)) at (c .if1 .taken) }

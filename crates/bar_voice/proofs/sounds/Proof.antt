@@ -15,7 +15,9 @@ voice-chord-requires c κs = can-read (c .before .before .pre) _ (c .if1 .left)
 returns-2 : tie.Need-returns-2
 returns-2 c =
     let given = c .before .before .before .before .args in
-    let read = ap (λ (d : Chord). d .start) (c .before .voice-chord .ensures ∙ sym (voice-get (given .n) (given .work .now) (given .v) (given .len) (given .next) (c .before .before .if1 .left))) in
+    let read = ap (λ (d : Chord). d .start)
+    (c .before .voice-chord .ensures
+    ∙ sym (voice-get (given .n) (given .work .now) (given .v) (given .len) (given .next) (c .before .before .if1 .left))) in
     rw (lt-ltb _ _ (c .before .before .if1 .left), ← read)
 
 pub sounds-spec : {M : Type 1} → statement M

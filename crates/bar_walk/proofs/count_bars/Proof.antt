@@ -5,7 +5,8 @@ use native.Mathlib.Omega.{arith}
 use lib.ListN.{length}
 use Rattle.rules.specs.Bars.{barsIn}
 use Rattle.track_events.specs.Track.{eventsOf}
-use Rattle.bar_walk.proofs.WalkLaws.{Walking, walking-start, walking-sane, walking-ready, walking-on, barsAhead, ahead-all, ahead-more, ahead-last, ahead-end}
+use Rattle.bar_walk.proofs.WalkLaws.{Walking, walking-start, walking-sane, walking-ready, walking-on}
+use Rattle.bar_walk.proofs.WalkLaws.{barsAhead, ahead-all, ahead-more, ahead-last, ahead-end}
 use Rattle.bar_walk.proofs.count_bars.Statement.{statement}
 use Rattle.bar_walk.proofs.count_bars.Tie as tie
 

@@ -9,7 +9,8 @@ use Rattle.laws.specs.Sort.{FallsFrom}
 use Rattle.laws.proofs.ChordLaws.{chordStart}
 use Rattle.laws.specs.Places.{down}
 use Rattle.chords.specs.Columns.{noteOf, chordAt}
-use Rattle.chords.proofs.Gathering.{Searching, Found, searching-none, searching-on, found-none, found-one, Gathering, gathering-none, before-falls, gathering-open, gathering-join, gathering-end}
+use Rattle.chords.proofs.Gathering.{Searching, Found, searching-none, searching-on, found-none, found-one, Gathering}
+use Rattle.chords.proofs.Gathering.{gathering-none, before-falls, gathering-open, gathering-join, gathering-end}
 use Rattle.chords.proofs.gather_chords.Statement.{statement}
 use Rattle.chords.proofs.gather_chords.Tie as tie
 

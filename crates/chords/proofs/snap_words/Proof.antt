@@ -16,7 +16,8 @@ loop-holds : tie.Need-loop-holds Inv-loop μ-loop
 loop-holds c = snapping-none (c .before .pre)
 
 -- the words of the note, as they were given
-words-in : (c : tie.In-loop Inv-loop μ-loop) → Words (c .before .before .before .args .n) (c .before .loop .i) (c .before .before .before .args .work .now) (c .before .loop .work)
+words-in : (c : tie.In-loop Inv-loop μ-loop)
+    → Words (c .before .before .before .args .n) (c .before .loop .i) (c .before .before .before .args .work .now) (c .before .loop .work)
 words-in c = words (c .before .before .before .pre) (c .before .loop .inv) (omega arith)
 
 started : (c : tie.After-snap Inv-loop μ-loop) → c .snap .result ≤ 2 ^ 47 + 32767

@@ -32,7 +32,8 @@ back c =
     let at-loop = c .before .before .before .before in
     let at-start = at-loop .before .before .before in
     let here = at-loop .loop in
-    any-back (at-start .args .words .now) (here .i) (omega arith) (omega (arith, here .inv .0, at-start .pre .same)) (sym (c .before .is-on .ensures) ∙ c .if1 .left) (here .inv .1)
+    any-back (at-start .args .words .now) (here .i) (omega arith) (omega (arith, here .inv .0, at-start .pre .same))
+    (sym (c .before .is-on .ensures) ∙ c .if1 .left) (here .inv .1)
 
 returns-2 : tie.Need-returns-2 Inv-loop μ-loop
 returns-2 c t =

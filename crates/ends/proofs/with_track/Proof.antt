@@ -12,7 +12,8 @@ returns c =
     let at-covered = c .before .before .before .before in
     let at-start = at-covered .before .before .before in
     let es = eventsOf (at-start .args .deltas .now) (at-start .args .words .now) in
-    taken-covered _ (trackEnd es) (sym (has-end es) ∙ sym (c .before .before .has-notes .ensures) ∙ c .before .if2 .taken) (at-covered .covered .ensures (c .before .before .before .if1 .taken))
+    taken-covered _ (trackEnd es) (sym (has-end es) ∙ sym (c .before .before .has-notes .ensures) ∙ c .before .if2 .taken)
+    (at-covered .covered .ensures (c .before .before .before .if1 .taken))
 
 returns-2 : tie.Need-returns-2
 returns-2 c =

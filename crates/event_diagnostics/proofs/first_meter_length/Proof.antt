@@ -28,14 +28,19 @@ returns c =
     let at-loop = c .before .before .before .before .before .before in
     let start = at-loop .before .before in
     let at = at-loop .loop in
-    let first = sym (meter-here (start .args .words .now) (at .i) (omega arith) (sym (c .before .before .before .kind-of .ensures) ∙ c .before .before .if1 .taken)) ∙ at .inv .1 in
+    let first = sym
+    (meter-here (start .args .words .now) (at .i) (omega arith) (sym (c .before .before .before .kind-of .ensures) ∙ c .before .before .if1 .taken))
+    ∙ at .inv .1 in
     c .length-of .ensures ∙ ap (meterLength (start .args .p)) first
 
 loop-again : tie.Need-loop-again Inv-loop μ-loop
 loop-again c =
     let at-loop = c .before .before .before .before in
-    let at = at-loop .loop in
-    (omega arith, sym (meter-on (at-loop .before .before .args .words .now) (at .i) (omega arith) (λ k. c .if1 .left (c .before .kind-of .ensures ∙ k))) ∙ at .inv .1)
+    let at = at-loop .loop in (
+      omega arith,
+      sym (meter-on (at-loop .before .before .args .words .now) (at .i) (omega arith) (λ k. c .if1 .left (c .before .kind-of .ensures ∙ k)))
+          ∙ at .inv .1,
+    )
 
 returns-2 : tie.Need-returns-2 Inv-loop μ-loop
 returns-2 c =

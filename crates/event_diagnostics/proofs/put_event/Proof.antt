@@ -31,7 +31,8 @@ returns c =
     let at-code-of = at-put .before .before .before .before in
     let at-start = at-code-of .before .before .before .before .before in
     let a = at-start .args in
-    rw (one-found (a .group) (a .track) (record { number = a .event; tick = a .tick; word = a .word }) (sym (at-code-of .before .before .is-found .ensures) ∙ at-code-of .before .if1 .taken))
+    rw (one-found (a .group) (a .track) (record { number = a .event; tick = a .tick; word = a .word })
+    (sym (at-code-of .before .before .is-found .ensures) ∙ at-code-of .before .if1 .taken))
     (rw (at-put .before .before .before .at-event .ensures, at-code-of .code-of .ensures) at (at-put .put .ensures))
 
 returns-2 : tie.Need-returns-2

@@ -25,7 +25,8 @@ returns c =
     let at-put = c .before .before .before .before in
     let at-event = at-put .before in
     let found = at-put .put .ensures in
-    rw (eq-eqb _ 1 (at-event .before .before .before .if1 .taken)) (record { found = rw (at-event .at-event .ensures) at found; few = omega (arith, found .count) })
+    rw (eq-eqb _ 1 (at-event .before .before .before .if1 .taken))
+    (record { found = rw (at-event .at-event .ensures) at found; few = omega (arith, found .count) })
 
 returns-2 : tie.Need-returns-2
 returns-2 c = rw (ne-eqb _ 1 (c .if1 .left)) (record { found = found-none 0 _ _; few = omega arith })

@@ -32,7 +32,14 @@ returns c x q =
     let at-take-apart = at-if1 .before .before .before .before in
     let on = sym (at-if1 .before .is-on .ensures) ∙ at-if1 .if1 .taken in
     let a = at-take-apart .take-apart .ensures in
-    stepped-on on (c .before .before .push .ensures (x .pending) _ q (record { channel = sym (at-if1 .before .before .before .size .ensures ∙ a .a); key = sym (at-if1 .before .before .size2 .ensures ∙ a .b); tick = refl; number = refl }))
+    stepped-on on
+    (c .before .before .push .ensures (x .pending) _ q
+    (record {
+      channel = sym (at-if1 .before .before .before .size .ensures ∙ a .a);
+      key = sym (at-if1 .before .before .size2 .ensures ∙ a .b);
+      tick = refl;
+      number = refl;
+    }))
 
 -- an off names a channel and a key
 of-off : (c : tie.Then2) → (c .before .before .before .before .before .size .result < 16) × (c .before .before .before .before .size2 .result < 128)
@@ -52,7 +59,9 @@ returns-2 c x q =
     let a = at-take-apart .take-apart .ensures in
     let b = note-bounds _ (at-take-apart .before .before .pre .formed) (inr off) in
     stepped-unmatched on off
-    (queue-empty _ _ (b .channel) (b .first) (rw (at-if1 .before .before .before .size .ensures ∙ a .a, at-if1 .before .before .size2 .ensures ∙ a .b) at (c .if3 .taken)) q) q
+    (queue-empty _ _ (b .channel) (b .first)
+    (rw (at-if1 .before .before .before .size .ensures ∙ a .a, at-if1 .before .before .size2 .ensures ∙ a .b) at (c .if3 .taken)) q)
+    q
 
 pop-requires : tie.Need-pop-requires
 pop-requires c κs =
@@ -73,7 +82,8 @@ returns-3 c x q =
     stepped-closed on off (rw (at-size2 .before .size .ensures ∙ a .a, at-size2 .size2 .ensures ∙ a .b) at (c .pop .ensures _ _ _ q))
 
 returns-4 : tie.Need-returns-4
-returns-4 c x q = stepped-other (sym (c .before .before .before .is-on .ensures) ∙ c .before .before .if1 .left) (sym (c .before .is-off .ensures) ∙ c .if2 .left) q
+returns-4 c x q =
+    stepped-other (sym (c .before .before .before .is-on .ensures) ∙ c .before .before .if1 .left) (sym (c .before .is-off .ensures) ∙ c .if2 .left) q
 
 pub pair-event-spec : {M : Type 1} → statement M
 pair-event-spec =

@@ -17,7 +17,8 @@ returns-2 c ps s q e =
     let at-write-node = c .before .before .before .before .before .before in
     let p = at-write-node .before .before .before .pre in
     let x = at-write-node .write-node .ensures in
-    rw (c .before .before .size .ensures) (pushed-behind (queues-kept (x .same) q) (p .channel) (p .key) (p .room) (p .small) e (x .node) (x .front) (omega arith))
+    rw (c .before .before .size .ensures)
+    (pushed-behind (queues-kept (x .same) q) (p .channel) (p .key) (p .room) (p .small) e (x .node) (x .front) (omega arith))
 
 abbrev start-of-else1 : tie.Else1 → tie.Start
 start-of-else1 c =

@@ -5,7 +5,9 @@ use Rattle.proofread_items.proofs.same_keys.Statement.{statement}
 use Rattle.proofread_items.proofs.same_keys.Tie as tie
 
 returns : tie.Need-returns
-returns c = let a = c .before .before .before .args in rw (words-differ (a .i .low) (a .i .high) (a .t .low) (a .t .high) (omega arith) (omega arith) (c .if1 .taken))
+returns c =
+    let a = c .before .before .before .args in
+    rw (words-differ (a .i .low) (a .i .high) (a .t .low) (a .t .high) (omega arith) (omega arith) (c .if1 .taken))
 
 returns-2 : tie.Need-returns-2
 returns-2 c =

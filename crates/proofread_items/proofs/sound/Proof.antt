@@ -19,7 +19,8 @@ close-chord-requires c κs = c .before .before .before .before .pre
 returns-3 : tie.Need-returns-3
 returns-3 c =
     let at-if2 = c .before .before .before .before in
-    sounds-new (at-if2 .before .before .before .pre .1) (at-if2 .before .if1 .left) (at-if2 .if2 .left) (c .before .before .close-chord .ensures) refl refl refl refl
+    sounds-new (at-if2 .before .before .before .pre .1) (at-if2 .before .if1 .left) (at-if2 .if2 .left) (c .before .before .close-chord .ensures) refl
+    refl refl refl
 
 pub sound-spec : {M : Type 1} → statement M
 sound-spec = tie.close (tie.spec returns returns-2 close-chord-requires (λ c. search needs) returns-3)

@@ -9,7 +9,12 @@ use Rattle.proofread_items.proofs.take_item.Statement.{statement}
 use Rattle.proofread_items.proofs.take_item.Tie as tie
 
 ticks-of-requires : tie.Need-ticks-of-requires
-ticks-of-requires c κs = let a = c .before .before .before .args in (c .before .before .before .pre .3, fits-code (a .p) (tieOf (a .v)) (a .v) (a .i) (sym (c .before .item-fits .ensures) ∙ c .if1 .taken), c .before .before .before .pre .4)
+ticks-of-requires c κs =
+    let a = c .before .before .before .args in (
+      c .before .before .before .pre .3,
+      fits-code (a .p) (tieOf (a .v)) (a .v) (a .i) (sym (c .before .item-fits .ensures) ∙ c .if1 .taken),
+      c .before .before .before .pre .4,
+    )
 
 sound-requires : tie.Need-sound-requires
 sound-requires c κs =
@@ -21,10 +26,15 @@ returns c =
     let at-ticks-of = c .before .before .before .before .before in
     let at-start = at-ticks-of .before .before .before .before in
     let a = at-start .args in
-    takes-fit (a .i) (a .v) (at-start .pre .2) (a .v .tick + at-ticks-of .ticks-of .result) (sym (at-ticks-of .before .before .item-fits .ensures) ∙ at-ticks-of .before .if1 .taken) (ap (λ (t : ℕ). a .v .tick + t) (at-ticks-of .ticks-of .ensures .0)) (omega (arith, at-ticks-of .ticks-of .ensures .1)) (c .before .before .sound .ensures) refl refl refl refl refl refl refl
+    takes-fit (a .i) (a .v) (at-start .pre .2) (a .v .tick + at-ticks-of .ticks-of .result)
+    (sym (at-ticks-of .before .before .item-fits .ensures) ∙ at-ticks-of .before .if1 .taken)
+    (ap (λ (t : ℕ). a .v .tick + t) (at-ticks-of .ticks-of .ensures .0)) (omega (arith, at-ticks-of .ticks-of .ensures .1))
+    (c .before .before .sound .ensures) refl refl refl refl refl refl refl
 
 returns-2 : tie.Need-returns-2
-returns-2 c = let a = c .before .before .before .args in takes-not (a .i) (a .v) (c .before .before .before .pre .2) (sym (c .before .item-fits .ensures) ∙ c .if1 .left) refl
+returns-2 c =
+    let a = c .before .before .before .args in
+    takes-not (a .i) (a .v) (c .before .before .before .pre .2) (sym (c .before .item-fits .ensures) ∙ c .if1 .left) refl
 
 pub take-item-spec : {M : Type 1} → statement M
 take-item-spec =

@@ -4,7 +4,8 @@ use mathlib.Core.Path.{_∙_}
 use native.Mathlib.Omega.{arith}
 use borrow.Author.Tests.{not-true, not-false}
 use Rattle.proofread_notes.proofs.Areas.{readable-same}
-use Rattle.proofread_items.proofs.Reading.{Reading, itemsOf, itemsLeft, reading-start, reading-more, reading-failed, arrays-start, arrays-next, arrays-end}
+use Rattle.proofread_items.proofs.Reading.{Reading, itemsOf, itemsLeft, reading-start, reading-more}
+use Rattle.proofread_items.proofs.Reading.{reading-failed, arrays-start, arrays-next, arrays-end}
 use Rattle.proofread_items.proofs.take_items.Statement.{statement}
 use Rattle.proofread_items.proofs.take_items.Tie as tie
 
@@ -16,7 +17,13 @@ abbrev μ-loop : tie.MeasureT-loop
 μ-loop work₀ n m g e p heads keys first count r₀ i₀ work r i = count - i
 
 loop-holds : tie.Need-loop-holds Inv-loop μ-loop
-loop-holds c = let a = c .before .before .before .args in (arrays-start (a .heads .now) (a .keys .now) (a .first) (a .count) (reading-start (c .before .before .before .pre .2) (c .before .before .before .pre .1)), omega arith, omega arith)
+loop-holds c =
+    let a = c .before .before .before .args in (
+      arrays-start (a .heads .now) (a .keys .now) (a .first) (a .count)
+          (reading-start (c .before .before .before .pre .2) (c .before .before .before .pre .1)),
+      omega arith,
+      omega arith,
+    )
 
 take-item-requires : tie.Need-take-item-requires Inv-loop μ-loop
 take-item-requires c κs =
@@ -41,7 +48,10 @@ returns c =
     let at-start = at-loop-test .before .before .before .before .before in
     let a = at-start .args in
     let l = at-loop-test .before .loop in
-    reading-failed (at-start .pre .0 .room) (arrays-next (a .heads .now) (a .keys .now) (a .first) (a .count) (at-item-of .item-of .result) (at-loop-test .loop-test .taken) (at-start .pre .6) (at-start .pre .7) (at-item-of .item-of .ensures .0) (l .inv .0)) (at-take-item .take-item .ensures) (not-true (at-take-item .take-item .result .ok) (c .if1 .taken))
+    reading-failed (at-start .pre .0 .room)
+    (arrays-next (a .heads .now) (a .keys .now) (a .first) (a .count) (at-item-of .item-of .result) (at-loop-test .loop-test .taken)
+    (at-start .pre .6) (at-start .pre .7) (at-item-of .item-of .ensures .0) (l .inv .0))
+    (at-take-item .take-item .ensures) (not-true (at-take-item .take-item .result .ok) (c .if1 .taken))
 
 loop-again : tie.Need-loop-again Inv-loop μ-loop
 loop-again c =
@@ -51,8 +61,14 @@ loop-again c =
     let at-start = at-loop-test .before .before .before .before .before in
     let a = at-start .args in
     let l = at-loop-test .before .loop in
-    let ok = not-false (at-take-item .take-item .result .ok) (c .if1 .left) in
-    (reading-more (at-start .pre .0 .room) (arrays-next (a .heads .now) (a .keys .now) (a .first) (a .count) (at-item-of .item-of .result) (at-loop-test .loop-test .taken) (at-start .pre .6) (at-start .pre .7) (at-item-of .item-of .ensures .0) (l .inv .0)) (at-take-item .take-item .ensures) ok, omega (arith, at-loop-test .loop-test .taken), omega (arith, l .inv .2, at-take-item .take-item .ensures .short ok))
+    let ok = not-false (at-take-item .take-item .result .ok) (c .if1 .left) in (
+      reading-more (at-start .pre .0 .room)
+          (arrays-next (a .heads .now) (a .keys .now) (a .first) (a .count) (at-item-of .item-of .result) (at-loop-test .loop-test .taken)
+          (at-start .pre .6) (at-start .pre .7) (at-item-of .item-of .ensures .0) (l .inv .0))
+          (at-take-item .take-item .ensures) ok,
+      omega (arith, at-loop-test .loop-test .taken),
+      omega (arith, l .inv .2, at-take-item .take-item .ensures .short ok),
+    )
 
 same-length-2 : tie.Need-same-length-2 Inv-loop μ-loop
 same-length-2 c = c .before .loop .inv .0 .area .kept

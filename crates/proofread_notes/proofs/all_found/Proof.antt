@@ -28,13 +28,15 @@ returns : tie.Need-returns Inv-loop μ-loop
 returns c =
     let at-loop-test = c .before .before .before .before in
     let l = at-loop-test .before .loop in
-    every-fails _ _ (l .i) _ (l .inv) (at-loop-test .loop-test .taken) (sym (rw (c .before .before .before .start-of .ensures .0) at (c .before .found .ensures)) ∙ not-true _ (c .if1 .taken))
+    every-fails _ _ (l .i) _ (l .inv) (at-loop-test .loop-test .taken)
+    (sym (rw (c .before .before .before .start-of .ensures .0) at (c .before .found .ensures)) ∙ not-true _ (c .if1 .taken))
 
 loop-again : tie.Need-loop-again Inv-loop μ-loop
 loop-again c =
     let at-loop-test = c .before .before .before .before in
     let l = at-loop-test .before .loop in
-    every-goes _ _ (l .i) _ (l .inv) (at-loop-test .loop-test .taken) (sym (rw (c .before .before .before .start-of .ensures .0) at (c .before .found .ensures)) ∙ not-false _ (c .if1 .left))
+    every-goes _ _ (l .i) _ (l .inv) (at-loop-test .loop-test .taken)
+    (sym (rw (c .before .before .before .start-of .ensures .0) at (c .before .found .ensures)) ∙ not-false _ (c .if1 .left))
 
 returns-2 : tie.Need-returns-2 Inv-loop μ-loop
 returns-2 c = sym (every-none _ _ (c .before .loop .i) (c .loop-test .left)) ∙ c .before .loop .inv

@@ -27,7 +27,8 @@ returns : tie.Need-returns Inv-loop μ-loop
 returns c =
     let at-loop-test = c .before .before .before .before in
     let at-start = at-loop-test .before .before .before in
-    scan-stop (at-start .pre .0) (at-start .pre .1) (at-loop-test .before .loop .inv) (at-loop-test .loop-test .taken) (λ e. c .if1 .taken (c .before .before .start-of .ensures .0 ∙ e))
+    scan-stop (at-start .pre .0) (at-start .pre .1) (at-loop-test .before .loop .inv) (at-loop-test .loop-test .taken)
+    (λ e. c .if1 .taken (c .before .before .start-of .ensures .0 ∙ e))
 
 take-note-requires : tie.Need-take-note-requires Inv-loop μ-loop
 take-note-requires c κs =
@@ -38,7 +39,8 @@ loop-again : tie.Need-loop-again Inv-loop μ-loop
 loop-again c =
     let at-if1 = c .before .before .before .before in
     let at-loop-test = at-if1 .before .before .before .before in
-    scan-more (at-loop-test .before .before .before .pre .0) (at-loop-test .before .loop .inv) (at-loop-test .loop-test .taken) (sym (at-if1 .before .before .start-of .ensures .0) ∙ at-if1 .if1 .left) (c .before .before .take-note .ensures)
+    scan-more (at-loop-test .before .before .before .pre .0) (at-loop-test .before .loop .inv) (at-loop-test .loop-test .taken)
+    (sym (at-if1 .before .before .start-of .ensures .0) ∙ at-if1 .if1 .left) (c .before .before .take-note .ensures)
 
 same-length-2 : tie.Need-same-length-2 Inv-loop μ-loop
 same-length-2 c = c .before .loop .inv .same .kept

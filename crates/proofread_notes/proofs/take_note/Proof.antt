@@ -9,14 +9,16 @@ returns c =
     let at-end-of = c .before .before .before .before in
     let at-start = at-end-of .before .before .before .before in
     let a = at-start .args in
-    took-marked (a .g) (a .n) (a .i) _ (a .c) (a .work .now) (at-end-of .end-of .ensures) (c .before .before .with-note .ensures) (c .before .has-key .ensures) (c .if1 .taken)
+    took-marked (a .g) (a .n) (a .i) _ (a .c) (a .work .now) (at-end-of .end-of .ensures) (c .before .before .with-note .ensures)
+    (c .before .has-key .ensures) (c .if1 .taken)
 
 returns-2 : tie.Need-returns-2
 returns-2 c =
     let at-end-of = c .before .before .before .before in
     let at-start = at-end-of .before .before .before .before in
     let a = at-start .args in
-    took-left (a .g) (a .n) (a .i) _ (a .c) (a .work .now) (at-end-of .end-of .ensures) (c .before .before .with-note .ensures) (c .before .has-key .ensures) (c .if1 .left)
+    took-left (a .g) (a .n) (a .i) _ (a .c) (a .work .now) (at-end-of .end-of .ensures) (c .before .before .with-note .ensures)
+    (c .before .has-key .ensures) (c .if1 .left)
 
 pub take-note-spec : {M : Type 1} → statement M
 take-note-spec =

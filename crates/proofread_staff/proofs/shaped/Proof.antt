@@ -16,13 +16,15 @@ returns-3 : tie.Need-returns-3
 returns-3 c =
     let at-sum-counts = c .before .before in
     let at-start = at-sum-counts .before .before .before .before .before in
-    shape-keys (at-start .pre) (at-sum-counts .before .if1 .left) (at-sum-counts .sum-counts .ensures .0) (at-sum-counts .sum-counts .ensures .1) (c .before .if2 .left) (c .if3 .taken)
+    shape-keys (at-start .pre) (at-sum-counts .before .if1 .left) (at-sum-counts .sum-counts .ensures .0) (at-sum-counts .sum-counts .ensures .1)
+    (c .before .if2 .left) (c .if3 .taken)
 
 returns-4 : tie.Need-returns-4
 returns-4 c =
     let at-sum-counts = c .before .before .before in
     let at-start = at-sum-counts .before .before .before .before .before in
-    shape-bits (at-start .pre) (at-sum-counts .before .if1 .left) (at-sum-counts .sum-counts .ensures .0) (at-sum-counts .sum-counts .ensures .1) (c .before .before .if2 .left) (c .before .if3 .left) (c .heads-mean .ensures)
+    shape-bits (at-start .pre) (at-sum-counts .before .if1 .left) (at-sum-counts .sum-counts .ensures .0) (at-sum-counts .sum-counts .ensures .1)
+    (c .before .before .if2 .left) (c .before .if3 .left) (c .heads-mean .ensures)
 
 pub shaped-spec : {M : Type 1} → statement M
 shaped-spec =

@@ -28,7 +28,9 @@ returns c =
     let ok = c .before .if1 .taken in
     let is : List Item = take (a .count) (drop (a .first) (readItems (a .heads .now) (a .keys .now))) in
     bar-full _ (a .v) (a .voice) _ (λ cs. refl) refl t (q .7) ok
-    (c .is-full .ensures ∙ full-code (a .p) (a .v) (a .start) (a .until) (a .count) _ is (t .tick ok) (none-there (a .heads .now) (a .keys .now) (a .first) (a .count) (q .9) (q .10)))
+    (c .is-full .ensures
+    ∙ full-code (a .p) (a .v) (a .start) (a .until) (a .count) _ is (t .tick ok)
+    (none-there (a .heads .now) (a .keys .now) (a .first) (a .count) (q .9) (q .10)))
     refl refl refl refl refl
 
 same-length-2 : tie.Need-same-length-2

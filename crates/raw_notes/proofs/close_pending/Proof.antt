@@ -37,7 +37,8 @@ loop-again c =
       kept = at-put-note .put-note .kept .0 ∙ inv .kept;
       reach = λ t x y.
           let p = inv .reach t x y in
-          closing-more p (at-put-note .before .before .take-pending .ensures t _ _ (p .taking .queues) (p .taking .later)) (at-put-note .put-note .kept .0) (at-put-note .put-note .ensures);
+          closing-more p (at-put-note .before .before .take-pending .ensures t _ _ (p .taking .queues) (p .taking .later))
+          (at-put-note .put-note .kept .0) (at-put-note .put-note .ensures);
     }
 
 same-length : tie.Need-same-length Inv-loop μ-loop

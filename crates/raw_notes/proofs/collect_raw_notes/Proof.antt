@@ -16,8 +16,11 @@ gather-requires c κs =
     let at-sort-places = c .before .before .before in
     let at-close-pending = at-sort-places .before .before .before .before in
     let at-pair-track = at-close-pending .before .before .before .before .before in
-    let p = at-pair-track .pair-track .ensures .pairs .queues in
-    (p .room, omega (arith, p .area, at-close-pending .close-pending .kept .1 .0, at-sort-places .sort-places .kept .0), places-small (at-sort-places .sort-places .ensures) (p .room))
+    let p = at-pair-track .pair-track .ensures .pairs .queues in (
+      p .room,
+      omega (arith, p .area, at-close-pending .close-pending .kept .1 .0, at-sort-places .sort-places .kept .0),
+      places-small (at-sort-places .sort-places .ensures) (p .room),
+    )
 
 returns : tie.Need-returns
 returns c =

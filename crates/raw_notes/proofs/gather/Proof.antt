@@ -18,12 +18,14 @@ loop-holds c = gathering-none _ _ _
 slice-read-work-2 : tie.Need-slice-read-work-2 Inv-loop μ-loop
 slice-read-work-2 c =
     let at-loop = c .before .before .before .before in
-    simp length-set (omega (arith, place-small (omega arith) (omega arith) (at-loop .before .pre .2) (at-loop .loop .inv) (omega arith), at-loop .loop .inv .kept))
+    simp length-set
+    (omega (arith, place-small (omega arith) (omega arith) (at-loop .before .pre .2) (at-loop .loop .inv) (omega arith), at-loop .loop .inv .kept))
 
 slice-write-work-2 : tie.Need-slice-write-work-2 Inv-loop μ-loop
 slice-write-work-2 c =
     let at-loop = c .before .before .before .before in
-    simp length-set (omega (arith, place-small (omega arith) (omega arith) (at-loop .before .pre .2) (at-loop .loop .inv) (omega arith), at-loop .loop .inv .kept))
+    simp length-set
+    (omega (arith, place-small (omega arith) (omega arith) (at-loop .before .pre .2) (at-loop .loop .inv) (omega arith), at-loop .loop .inv .kept))
 
 loop-again : tie.Need-loop-again Inv-loop μ-loop
 loop-again c =
@@ -76,8 +78,16 @@ gather-spec =
     (λ c. omega arith)
     (λ c. omega arith)
     (λ c. omega arith)
-    (λ c. omega (arith, place-small (omega arith) (omega arith) (c .before .before .before .pre .2) (c .before .before .loop .inv) (omega arith), c .before .before .loop .inv .kept))
-    (λ c. omega (arith, place-small (omega arith) (omega arith) (c .before .before .before .pre .2) (c .before .before .loop .inv) (omega arith), c .before .before .loop .inv .kept))
+    (λ c. omega (
+      arith,
+      place-small (omega arith) (omega arith) (c .before .before .before .pre .2) (c .before .before .loop .inv) (omega arith),
+      c .before .before .loop .inv .kept,
+    ))
+    (λ c. omega (
+      arith,
+      place-small (omega arith) (omega arith) (c .before .before .before .pre .2) (c .before .before .loop .inv) (omega arith),
+      c .before .before .loop .inv .kept,
+    ))
     slice-read-work
     (λ c. omega arith)
     slice-write-work

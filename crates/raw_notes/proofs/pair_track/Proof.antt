@@ -40,8 +40,11 @@ loop-again c =
     let at-wide = at-take-event .before .before .before .before .before .before in
     let at-loop = at-wide .before .before .before in
     let at-start = at-loop .before .before .before .before in
-    let p = at-loop .loop .inv in
-    (at-take-event .take-event .kept .1 .1 .0 ∙ p .0, running-more (at-start .pre .track) (p .1) (omega arith) (rw (at-wide .wide .ensures) at (at-take-event .take-event .ensures (p .1 .x) (p .1 .pairs))))
+    let p = at-loop .loop .inv in (
+      at-take-event .take-event .kept .1 .1 .0 ∙ p .0,
+      running-more (at-start .pre .track) (p .1) (omega arith)
+          (rw (at-wide .wide .ensures) at (at-take-event .take-event .ensures (p .1 .x) (p .1 .pairs))),
+    )
 
 same-length : tie.Need-same-length Inv-loop μ-loop
 same-length c = c .before .loop .inv .0

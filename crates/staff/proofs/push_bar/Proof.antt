@@ -17,7 +17,9 @@ abbrev μ-loop : tie.MeasureT-loop
     4 - v
 
 -- what is asked of the bar
-abbrev can : (c : tie.Start Inv-loop μ-loop) → CanPush (c .args .write) (quarter (c .args .values .now)) (c .args .n) (c .args .work .now) (c .args .t5) (c .args .bar) (c .args .s) (c .args .counts .now) (c .args .heads .now) (c .args .keys .now)
+abbrev can : (c : tie.Start Inv-loop μ-loop)
+    → CanPush (c .args .write) (quarter (c .args .values .now)) (c .args .n) (c .args .work .now) (c .args .t5) (c .args .bar) (c .args .s)
+    (c .args .counts .now) (c .args .heads .now) (c .args .keys .now)
 can c = c .pre .2
 
 loop-holds : tie.Need-loop-holds Inv-loop μ-loop

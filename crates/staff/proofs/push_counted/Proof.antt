@@ -24,7 +24,12 @@ few c =
     let at-start = start-of-push-voice c in
     let pre = at-start .pre in
     let skipped = c .before .before .before .skip-past .ensures in
-    omega (arith, voice-few (quarter (at-start .args .values .now)) (eqb (at-start .args .v) 0) (pre .2 .some-bar) (pre .1 .line) skipped, c .push-voice .ensures .next, pre .2 .short)
+    omega (
+      arith,
+      voice-few (quarter (at-start .args .values .now)) (eqb (at-start .args .v) 0) (pre .2 .some-bar) (pre .1 .line) skipped,
+      c .push-voice .ensures .next,
+      pre .2 .short,
+    )
 
 put-count-requires : tie.Need-put-count-requires
 put-count-requires c κs =
@@ -40,7 +45,9 @@ returns c =
     let voice = at-push-voice .push-voice .ensures in
     let given = at-start .args in
     let many : at-push-voice .push-voice .result - given .from
-    ≡ length (voiceFrom (quarter (given .values .now)) (eqb (given .v) 0) (given .bar .start) (given .bar .end) (voiceOf (given .n) (given .work .now) (given .v) (given .len)))
+    ≡ length
+    (voiceFrom (quarter (given .values .now)) (eqb (given .v) 0) (given .bar .start) (given .bar .end)
+    (voiceOf (given .n) (given .work .now) (given .v) (given .len)))
     = omega (arith, voice .next) in
     record {
       past = at-push-voice .before .before .before .skip-past .ensures .past;

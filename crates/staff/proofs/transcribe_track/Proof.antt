@@ -5,7 +5,8 @@ use native.Mathlib.Omega.{arith}
 use borrow.Author.Needs.{needs}
 use Rattle.bar_walk.proofs.WalkLaws.{walking-sane, walking-ready}
 use Rattle.items.specs.Writing.{quarter}
-use Rattle.staff.proofs.StaffWalk.{Onward, onward-start, onward-counts, onward-heads, onward-keys, onward-end-soon, onward-can, onward-more, onward-last, onward-end}
+use Rattle.staff.proofs.StaffWalk.{Onward, onward-start, onward-counts, onward-heads, onward-keys, onward-end-soon}
+use Rattle.staff.proofs.StaffWalk.{onward-can, onward-more, onward-last, onward-end}
 use Rattle.staff.proofs.transcribe_track.Statement.{statement}
 use Rattle.staff.proofs.transcribe_track.Tie as tie
 
@@ -50,8 +51,12 @@ push-bar-requires c κs =
     let at-length = c .before .before .before .before in
     let at-loop = at-length .before .before .before in
     let at-start = start-of-loop at-loop in
-    let pre = at-start .pre in
-    (pre .0, pre .3, rw (at-length .length .ensures) (onward-can _ _ _ _ _ _ _ _ _ _ _ _ (pre .4) (pre .3) (pre .1 .ticks) (at-loop .loop .inv) (at-length .before .if1 .taken) (pre .2)))
+    let pre = at-start .pre in (
+      pre .0,
+      pre .3,
+      rw (at-length .length .ensures)
+          (onward-can _ _ _ _ _ _ _ _ _ _ _ _ (pre .4) (pre .3) (pre .1 .ticks) (at-loop .loop .inv) (at-length .before .if1 .taken) (pre .2)),
+    )
 
 next-bar-requires : tie.Need-next-bar-requires Inv-loop μ-loop
 next-bar-requires c κs =
@@ -126,7 +131,8 @@ loop-again c =
     let next = c .before .before .before .next-bar .ensures in
     let more = rw next at (c .before .if2 .left) in
     let settled = rw next at (c .take-changes .ensures) in
-    onward-more _ _ _ _ _ _ _ _ _ _ _ _ (pre .4) (pre .3) (pre .1 .ticks) (at-loop .loop .inv) (at-length .before .if1 .taken) put settled (pre .1 .end-fits) more
+    onward-more _ _ _ _ _ _ _ _ _ _ _ _ (pre .4) (pre .3) (pre .1 .ticks) (at-loop .loop .inv) (at-length .before .if1 .taken) put settled
+    (pre .1 .end-fits) more
 
 same-length-4 : tie.Need-same-length-4 Inv-loop μ-loop
 same-length-4 c =

@@ -42,7 +42,8 @@ loop-again c =
     let at-start = o .before .before .before .before .before .before in
     let p = o .loop .inv in (
       e .take-event .kept .1 .1 .0 ∙ p .0,
-      running-more (at-start .pre) (p .1) (at-wide .before .before .loop-test .taken) (rw (at-wide .wide .ensures) at (e .take-event .ensures (p .1 .x) (p .1 .pairs))),
+      running-more (at-start .pre) (p .1) (at-wide .before .before .loop-test .taken)
+          (rw (at-wide .wide .ensures) at (e .take-event .ensures (p .1 .x) (p .1 .pairs))),
     )
 
 shared-slice-read-take-event : tie.Need-shared-slice-read-take-event Inv-loop μ-loop

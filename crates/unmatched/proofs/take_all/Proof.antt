@@ -29,8 +29,10 @@ put-requires c κs =
     let o = at-start .pre in
     let inv = at-loop .loop .inv in
     let p = inv .reach (o .tails) (o .count) (o .x) (o .pairs) in
-    rw (c .unmatched-on .ensures)
-    (taken-packs p (c .before .before .before .take-pending .ensures (o .tails) _ _ (p .taking .queues) (p .taking .later)) (o .numbered), omega (arith, inv .few, o .room))
+    rw (c .unmatched-on .ensures) (
+      taken-packs p (c .before .before .before .take-pending .ensures (o .tails) _ _ (p .taking .queues) (p .taking .later)) (o .numbered),
+      omega (arith, inv .few, o .room),
+    )
 
 loop-again : tie.Need-loop-again Inv-loop μ-loop
 loop-again c =

@@ -51,7 +51,8 @@ count-pieces-spec =
     (λ c. omega arith)
     (λ c κs. search needs)
     (λ c. long c)
-    (λ c. let at-loop = c .before .before .before .before .before in omega (arith, division-few (at-loop .loop .left) (getD (at-loop .before .args .values .now) (at-loop .loop .i) 0) (long c)))
+    (λ c. let at-loop = c .before .before .before .before .before in
+    omega (arith, division-few (at-loop .loop .left) (getD (at-loop .before .args .values .now) (at-loop .loop .i) 0) (long c)))
     (λ c. long c)
     (λ c. omega arith)
     (λ c. omega arith)

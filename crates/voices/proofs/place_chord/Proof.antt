@@ -18,7 +18,9 @@ entry c = c .before .before .before .before
 -- the rules choose x
 abbrev Chosen : tie.After-choose → Choice → Type 0
 Chosen c x =
-    x ≡ choose (chordAt (entry c .args .n) (entry c .args .work .now) (entry c .args .k)) (voicesAt (entry c .args .n) (entry c .args .work .now) (entry c .args .lasts .lens))
+    x
+    ≡ choose (chordAt (entry c .args .n) (entry c .args .work .now) (entry c .args .k))
+    (voicesAt (entry c .args .n) (entry c .args .work .now) (entry c .args .lasts .lens))
 
 -- voice v has a chord
 abbrev HasChord : tie.After-choose → ℕ → Type 0
@@ -100,7 +102,8 @@ returns-3 c =
     let e = c .before .before .before .before .before .before in
     let d = e .before .before .before .before .before in
     let read = d .before .before .before .chord-at in
-    placed-cut (entry (d .before .before) .pre) (chordOf (read .result)) (read .ensures) (e .before .before .last-of2 .ensures) (is-cut d) (e .cut-chord .ensures)
+    placed-cut (entry (d .before .before) .pre) (chordOf (read .result)) (read .ensures) (e .before .before .last-of2 .ensures) (is-cut d)
+    (e .cut-chord .ensures)
     (c .before .before .push2 .ensures)
 
 pub place-chord-spec : {M : Type 1} → statement M

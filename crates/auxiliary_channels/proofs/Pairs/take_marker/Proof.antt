@@ -20,7 +20,9 @@ returns-2 : tie.Need-returns-2
 returns-2 c =
     let at-if1 = c .before .before .before .before in
     let is = at-if1 .before .before .take-apart .ensures in
-    rw (← is .kind, ← is .a, ← is .b) (rw (eq-eqb _ _ (at-if1 .if1 .left), sym (c .before .before .before .is-pair .ensures) ∙ c .before .before .if2 .taken) (c .add .ensures ∙ rw (c .before .size .ensures)))
+    rw (← is .kind, ← is .a, ← is .b)
+    (rw (eq-eqb _ _ (at-if1 .if1 .left), sym (c .before .before .before .is-pair .ensures) ∙ c .before .before .if2 .taken)
+    (c .add .ensures ∙ rw (c .before .size .ensures)))
 
 returns-3 : tie.Need-returns-3
 returns-3 c =
