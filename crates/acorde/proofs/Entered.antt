@@ -1,11 +1,12 @@
--- The entries for C have the answers of the calls, as structs.
+-- The entries for C have the answers of the calls, as structs: what a call that is told as it is leaves, it leaves told so too.
 use Prim.Native.Nat.{ℕ}
 use mathlib.Core.Bool.{Bool, true, false}
 use lib.IntN.{pos}
 use mathlib.Core.List.{List}
 use mathlib.Core.Path.{_≡_, refl, ap, _∙_}
 use Rattle.rules.specs.Automation.{AutomationLists}
-use Rattle.rules.specs.Calls.{BarLists, BarsCalled, StaffSize, StaffSizeCalled, EngraveCalled, AutomationCounts, AutomationCalled, DiagnosticsCalled, ProofReadCalled}
+use Rattle.rules.specs.Calls.{BarLists, BarsCalled, StaffSize, StaffSizeCalled, EngraveCalled}
+use Rattle.rules.specs.Calls.{AutomationCounts, AutomationCalled, DiagnosticsCalled, ProofReadCalled}
 use Rattle.rules.specs.Diagnostics.{Diagnostic}
 use Rattle.rules.specs.Items.{StaffArrays}
 use Rattle.rules.specs.Refusals.{Result, refused, given, asItIs}
@@ -24,7 +25,8 @@ head-entry h absent = go (h .«has_key») refl
     go true e = rw e
     go false e = rw (e, absent e .0, absent e .1)
 
-pub bars-entered : {r : Result BarLists} {starts marks starts₁ marks₁ : List ℕ} {a b : Result ℕ} → a ≡ b → BarsCalled asItIs r starts marks b starts₁ marks₁
+pub bars-entered : {r : Result BarLists} {starts marks starts₁ marks₁ : List ℕ} {a b : Result ℕ} → a ≡ b
+    → BarsCalled asItIs r starts marks b starts₁ marks₁
     → BarsCalled countEntry r starts marks (countEntry a) starts₁ marks₁
 bars-entered e called =
     record { answered = ap countEntry (e ∙ called .answered); starts = called .starts; marks = called .marks }
@@ -35,11 +37,13 @@ automation-entered e called =
     record { answered = ap automationEntry (e ∙ called .answered); ticks = called .ticks; words = called .words }
 
 pub diagnostics-entered : {r : Result (List Diagnostic)} {places details work places₁ details₁ work₁ : List ℕ} {a b : Result ℕ} → a ≡ b
-    → DiagnosticsCalled asItIs r places details work b places₁ details₁ work₁ → DiagnosticsCalled countEntry r places details work (countEntry a) places₁ details₁ work₁
+    → DiagnosticsCalled asItIs r places details work b places₁ details₁ work₁
+    → DiagnosticsCalled countEntry r places details work (countEntry a) places₁ details₁ work₁
 diagnostics-entered e called =
     record { answered = ap countEntry (e ∙ called .answered); places = called .places; details = called .details; work = called .work }
 
-pub engrave-entered : {size : StaffSize} {r : Result StaffArrays} {counts heads keys work counts₁ heads₁ keys₁ work₁ : List ℕ} {a b : Result StaffSize} → a ≡ b
+pub engrave-entered : {size : StaffSize} {r : Result StaffArrays} {counts heads keys work counts₁ heads₁ keys₁ work₁ : List ℕ}
+    {a b : Result StaffSize} → a ≡ b
     → EngraveCalled asItIs size r counts heads keys work b counts₁ heads₁ keys₁ work₁
     → EngraveCalled staffEntry size r counts heads keys work (staffEntry a) counts₁ heads₁ keys₁ work₁
 engrave-entered e o =

@@ -12,11 +12,11 @@ use automation::AutomationAnswer;
 use bars::BarsAnswer;
 use changes::Head;
 use diagnostics::DiagnosticsAnswer;
-use engraver::StaffAnswer;
 use heads::HeadAnswer;
 use heads::PartCountAnswer;
 use heads::PartHeadAnswer;
 use proofread::ReadAnswer;
+use staffs::StaffAnswer;
 
 #[repr(C)]
 pub struct AcordeHead {

@@ -1,7 +1,2 @@
-pub mod Demand
-pub mod Engraved
-pub mod Heard
-pub mod Run
-pub mod VoiceBar
 pub mod Together
 pub mod Witnesses

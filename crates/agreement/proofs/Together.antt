@@ -16,7 +16,8 @@ use Rattle.rules.specs.Items.{StaffArrays, headOf, itemsOf}
 use Rattle.rules.specs.Voices.{voices}
 use Rattle.rules.specs.Staff.{partStaff}
 use Rattle.rules.specs.Refusals.{Result, refused, given, Refusal, unless, answers, writes, partRefusals, shortWork, shortOutput, asItIs}
-use Rattle.rules.specs.Calls.{StaffSize, partTrack, partNotes, partSize, partArrays, engraveCall, EngraveCalled, proofReadRefusals, proofReadCall, ProofReadCalled}
+use Rattle.rules.specs.Calls.{StaffSize, partTrack, partNotes, partSize, partArrays, engraveCall}
+use Rattle.rules.specs.Calls.{EngraveCalled, proofReadRefusals, proofReadCall, ProofReadCalled}
 use Rattle.laws.specs.Admitted.{Passes}
 use Rattle.laws.proofs.Lists.{All-left, All-right}
 use Rattle.laws.proofs.Order.{by-bool}
@@ -25,7 +26,7 @@ use Rattle.laws.proofs.VoiceLaws.{voices-four}
 use Rattle.items.proofs.Appending.{keys-length}
 use Rattle.staff.proofs.StaffSizes.{counts-length}
 use Rattle.agreement.specs.Together.{engraveRefusals, togetherCall, Together}
-use Rattle.agreement.proofs.Demand.{engraved-yes}
+use Rattle.playback.proofs.Demand.{engraved-yes}
 
 -- ---- refused or given
 
@@ -67,9 +68,9 @@ module _ (x : Piece) (k : ℕ) {counts₀ heads₀ keys₀ work₀ counts₁ hea
     abbrev refusals : List Refusal
     refusals = engraveRefusals x k (length counts₀) (length heads₀) (length keys₀) (length work₀)
 
-    -- the number of an engraving that is turned back
-    pub turned-back : (n : ℕ) → refused n ≡ answer → Together x k counts₀ heads₀ keys₀ work₀ (refused n) counts₁ heads₁ keys₁ work₁
-    turned-back n h =
+    -- the number of an engraving that is refused
+    pub engraving-refused : (n : ℕ) → refused n ≡ answer → Together x k counts₀ heads₀ keys₀ work₀ (refused n) counts₁ heads₁ keys₁ work₁
+    engraving-refused n h =
         record {
           answered = refused-first (λ (s : StaffArrays). partSize x k) (partArrays x k) true _ refusals n (h ∙ engraved .answered);
           counts = engraved .counts;
@@ -85,7 +86,9 @@ module _ (x : Piece) (k : ℕ) {counts₀ heads₀ keys₀ work₀ counts₁ hea
       engraves : engraveCall x k (length counts₀) (length heads₀) (length keys₀) (length work₀) ≡ given (partArrays x k)
       engraves = passes-given refusals (partArrays x k) (passed .0)
 
-      rooms : Passes (shortWork x (length work₀) ∷ shortOutput (length counts₀) (partArrays x k .counts) ∷ shortOutput (length heads₀) (partArrays x k .heads) ∷ shortOutput (length keys₀) (partArrays x k .keys) ∷ [])
+      rooms : Passes
+          (shortWork x (length work₀) ∷ shortOutput (length counts₀) (partArrays x k .counts) ∷ shortOutput (length heads₀) (partArrays x k .heads)
+          ∷ shortOutput (length keys₀) (partArrays x k .keys) ∷ [])
       rooms = All-right _ (partRefusals x k) _ (passed .0)
 
       -- the arrays are as long as the size says, and there is room for them
@@ -117,9 +120,15 @@ module _ (x : Piece) (k : ℕ) {counts₀ heads₀ keys₀ work₀ counts₁ hea
       handed i =
           let r = engraves in
           record {
-            counts = front (partArrays x k .counts) counts₀ counts₁ _ counts-used (engraved .counts ∙ ap (λ o. written (writes (λ (s : StaffArrays). s .counts) o) counts₀) r) i;
-            heads = front (partArrays x k .heads) heads₀ heads₁ _ heads-used (engraved .heads ∙ ap (λ o. written (writes (λ (s : StaffArrays). s .heads) o) heads₀) r) i;
-            keys = front (partArrays x k .keys) keys₀ keys₁ _ keys-used (engraved .keys ∙ ap (λ o. written (writes (λ (s : StaffArrays). s .keys) o) keys₀) r) i;
+            counts =
+                front (partArrays x k .counts) counts₀ counts₁ _ counts-used
+                (engraved .counts ∙ ap (λ o. written (writes (λ (s : StaffArrays). s .counts) o) counts₀) r) i;
+            heads =
+                front (partArrays x k .heads) heads₀ heads₁ _ heads-used
+                (engraved .heads ∙ ap (λ o. written (writes (λ (s : StaffArrays). s .heads) o) heads₀) r) i;
+            keys =
+                front (partArrays x k .keys) keys₀ keys₁ _ keys-used (engraved .keys ∙ ap (λ o. written (writes (λ (s : StaffArrays). s .keys) o) keys₀) r)
+                i;
           }
 
       -- with 1 to 8 passed, both have 9 alone left
@@ -133,7 +142,10 @@ module _ (x : Piece) (k : ℕ) {counts₀ heads₀ keys₀ work₀ counts₁ hea
       same-work = ap (length {A = ℕ}) (engraved .work) ∙ length-replicate (length work₀) 0
 
       pub read-together : {r : Result Bool} {work₂ : List ℕ}
-          → ProofReadCalled asItIs (proofReadCall x k (record { counts = take (4 * s .bars) counts₁; heads = take (s .items) heads₁; keys = take (2 * s .items) keys₁ }) (length work₁)) work₁ r work₂
+          → ProofReadCalled asItIs
+          (proofReadCall x k (record { counts = take (4 * s .bars) counts₁; heads = take (s .items) heads₁; keys = take (2 * s .items) keys₁ })
+          (length work₁))
+          work₁ r work₂
           → Together x k counts₀ heads₀ keys₀ work₀ r counts₁ heads₁ keys₁ work₂
       read-together read =
           record {

@@ -16,7 +16,10 @@ use Rattle.rules.specs.Refusals.{unless, firstNumber, eventRefusals, pieceRefus
 use Rattle.agreement.specs.Witnesses.{Witnesses}
 
 pub witnesses : Witnesses
-unfolding flatMap flatten keep any every position changeFirst insert sortBy below sum sizesAgree timed cutTracks wellFormed withoutOldest pairOne rawNotesOf mostNotes barsFrom endOfPiece barsUpTo isOffGrid grid joinOrOpen choose place voices values splitIn twos readItems cutBy byFours pieces filled voiceIn timedFrom voiceTimed heardAfter full? tied? endsMeant? right? shaped? even? unless firstNumber eventRefusals pieceRefusals
+unfolding flatMap flatten keep any every position changeFirst insert sortBy below sum sizesAgree timed cutTracks wellFormed withoutOldest
+    pairOne rawNotesOf mostNotes barsFrom endOfPiece barsUpTo isOffGrid grid joinOrOpen choose place voices values splitIn twos readItems
+    cutBy byFours pieces filled voiceIn timedFrom voiceTimed heardAfter full? tied? endsMeant? right? shaped? even? unless firstNumber
+    eventRefusals pieceRefusals
 witnesses =
     record {
       engraved = refl;

@@ -1,4 +1,2 @@
-pub mod Demand
-pub mod Performance
 pub mod Together
 pub mod Witnesses

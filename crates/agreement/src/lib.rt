@@ -2,8 +2,8 @@
 ghost use Rattle.rules.specs.Piece.{piece};
 ghost use Rattle.proofread.specs.Answers.{readAnswer};
 ghost use Rattle.agreement.specs.Together.{Together};
-use engraver::StaffAnswer;
 use proofread::ReadAnswer;
+use staffs::StaffAnswer;
 
 // Engraves a part into the lent arrays and hands exactly the used part of them to the proof-reader. Its answer is document 01's number
 // where there is one, else yes.

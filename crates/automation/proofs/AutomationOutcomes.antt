@@ -8,9 +8,12 @@ use Rattle.rules.specs.Lists.{written}
 use Rattle.rules.specs.Piece.{Piece, Event, ticksPerQuarter}
 use Rattle.rules.specs.Automation.{AutomationLists, automationLists}
 use Rattle.rules.specs.Refusals.{Result, refused, given, unless, partRefusals, asItIs}
-use Rattle.rules.specs.Calls.{AutomationCounts, AutomationCalled, automationCall, partTrack}
-use Rattle.laws.specs.Admitted.{Passes}
+use Rattle.rules.specs.Calls.{AutomationCounts, AutomationCalled, automationCall}
 use Rattle.laws.proofs.Refusals.{passes-append}
+use Rattle.track_events.specs.Track.{eventsOf, stretch}
+use Rattle.opening.specs.declared.OpenedPart.{OpenedPart}
+use Rattle.opening.specs.Opening.{PartOpened}
+use Rattle.opening.proofs.Opening.{refuses, part-passes}
 use Rattle.automation_events.specs.Kinds.{AreCounts}
 use Rattle.automation_events.specs.declared.Counts.{Counts}
 use Rattle.automation_events.proofs.CountLaws.{ticks-total, words-total}
@@ -23,8 +26,9 @@ total c = c .bends + c .controllers + c .programs + c .pressures
 abbrev pub asCounts : Counts → AutomationCounts
 asCounts c = record { bends = c .bends; controllers = c .controllers; programs = c .programs; pressures = c .pressures }
 
--- a call that is turned back leaves both outputs
-pub automation-refused : {r : Result AutomationLists} {ticks words : List ℕ} (n : ℕ) → r ≡ refused n → AutomationCalled asItIs r ticks words (refused n) ticks words
+-- a call that is refused leaves both outputs
+automation-refused : {r : Result AutomationLists} {ticks words : List ℕ} (n : ℕ) → r ≡ refused n
+    → AutomationCalled asItIs r ticks words (refused n) ticks words
 automation-refused n e = record { answered = rw e; ticks = rw e; words = rw e }
 
 module _ (p : ℕ) (es : List Event) (ticks words : List ℕ) (c : Counts) (are : AreCounts es c) where
@@ -32,7 +36,8 @@ module _ (p : ℕ) (es : List Event) (ticks words : List ℕ) (c : Counts) (are 
   unfolding unless
   few-ticks h = rw (ticks-total are p, lt-ltb _ _ h)
 
-  pub ticks-short : length ticks < total c → AutomationCalled asItIs (automationOutcome p es (length ticks) (length words)) ticks words (refused 8) ticks words
+  pub ticks-short : length ticks < total c
+      → AutomationCalled asItIs (automationOutcome p es (length ticks) (length words)) ticks words (refused 8) ticks words
   ticks-short h = automation-refused 8 (few-ticks h)
 
   few-words : total c ≤ length ticks → length words < total c → automationOutcome p es (length ticks) (length words) ≡ refused 8
@@ -53,17 +58,32 @@ module _ (p : ℕ) (es : List Event) (ticks words : List ℕ) (c : Counts) (are 
   automation-given h k t w =
       rw (enough h k)
       (record {
-        answered = λ i. given (record { bends = are .bends p i; controllers = are .controllers p i; programs = are .programs p i; pressures = are .pressures p i });
+        answered = λ i.
+            given
+            (record {
+              bends = are .bends p i;
+              controllers = are .controllers p i;
+              programs = are .programs p i;
+              pressures = are .pressures p i;
+            });
         ticks = t;
         words = w;
       })
 
--- what writing the part's track comes to is the call's outcome
-pub automation-answered : (x : Piece) (k : ℕ) {es : List Event} {p : ℕ} {ticks words ticks₁ words₁ : List ℕ} {r : Result AutomationCounts}
-    → Passes (partRefusals x k) → es ≡ partTrack x k → p ≡ ticksPerQuarter x
-    → AutomationCalled asItIs (automationOutcome p es (length ticks) (length words)) ticks words r ticks₁ words₁
-    → AutomationCalled asItIs (automationCall x k (length ticks) (length words)) ticks words r ticks₁ words₁
-automation-answered x k {ticks = ticks} {words = words} {ticks₁ = ticks₁} {words₁ = words₁} {r = r} h e f called =
-    subst (λ o. AutomationCalled asItIs o ticks words r ticks₁ words₁)
-    ((λ i. automationOutcome (f i) (e i) (length ticks) (length words)) ∙ sym (passes-append (partRefusals x k) _ _ h))
-    called
+module _ (x : Piece) (k : ℕ) {o : OpenedPart} {ticks words : List ℕ} (opened : PartOpened x k o) where
+  -- 1 to 7
+  pub part-refused : (o .number ≡ 0 → ⊥)
+      → AutomationCalled asItIs (automationCall x k (length ticks) (length words)) ticks words (refused (o .number)) ticks words
+  part-refused h = automation-refused (o .number) (refuses (partRefusals x k) (opened .number) h _ _)
+
+  -- what writing the part's track comes to is the call's outcome
+  pub part-answered : {p : ℕ} {ticks₁ words₁ : List ℕ} {r : Result AutomationCounts} → o .number ≡ 0 → p ≡ ticksPerQuarter x
+      → AutomationCalled asItIs
+      (automationOutcome p (eventsOf (stretch (o .from) (o .to) (x .deltas)) (stretch (o .from) (o .to) (x .words))) (length ticks) (length words))
+      ticks words r ticks₁ words₁
+      → AutomationCalled asItIs (automationCall x k (length ticks) (length words)) ticks words r ticks₁ words₁
+  part-answered {ticks₁ = ticks₁} {words₁ = words₁} {r = r} z e called =
+      subst (λ o. AutomationCalled asItIs o ticks words r ticks₁ words₁)
+      ((λ i. automationOutcome (e i) (opened .own z .events i) (length ticks) (length words))
+      ∙ sym (passes-append (partRefusals x k) _ _ (part-passes x k opened z)))
+      called

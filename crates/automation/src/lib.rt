@@ -1,12 +1,13 @@
 // The call on a part's automation.
 ghost use Rattle.rules.specs.Refusals.{asItIs};
-ghost use Rattle.rules.specs.Piece.{piece};
+ghost use Rattle.rules.specs.Piece.{piece, largestSize};
 ghost use Rattle.rules.specs.Calls.{automationCall, AutomationCalled};
 ghost use Prim.Native.Nat.{_≤_, _<_};
 ghost use Rattle.track_events.specs.Track.{Track, eventsOf};
 ghost use lib.ListN.{length};
 ghost use Rattle.automation.specs.Answers.{automationAnswer, automationOutcome};
 use automation_events::Counts;
+use track_events::cut;
 
 pub enum AutomationAnswer {
     Refused(u32),
@@ -21,12 +22,12 @@ fn write_automation(
     ticks: &mut [u64],
     out: &mut [u32],
 ) -> AutomationAnswer
-    requires { ⌜ Track (now deltas) (now words) × (0 < p) × (p ≤ 65535) ⌝ }
+    requires { ⌜ Track (now deltas) (now words) × (0 < p) × (p ≤ largestSize) ⌝ }
     ensures { λ r. ⌜ AutomationCalled asItIs
         (automationOutcome p (eventsOf (now (deltas .entry)) (now (words .entry))) (length (now (ticks .entry))) (length (now (out .entry))))
         (now (ticks .entry)) (now (out .entry)) (automationAnswer r) (now (ticks .exit)) (now (out .exit)) ⌝ }
 {
-    let dropped = automation_events::recognized_auxiliary_channels(deltas, words);
+    let dropped = auxiliary_channels::recognized_auxiliary_channels(deltas, words);
     let counts = automation_events::count_automation(deltas, words, dropped);
     let all = counts.bends + counts.controllers + counts.programs + counts.pressures;
     if ticks.len() < all {
@@ -52,17 +53,12 @@ pub fn automation(
         (automationCall (piece (now (sizes .entry)) (now (deltas .entry)) (now (words .entry))) part (length (now (ticks .entry))) (length (now (out .entry))))
         (now (ticks .entry)) (now (out .entry)) (automationAnswer r) (now (ticks .exit)) (now (out .exit)) ⌝ }
 {
-    let entry = entering::enter(sizes, deltas, words);
-    if entry.number != 0 {
-        return AutomationAnswer::Refused(entry.number);
+    let opened = opening::open_part(sizes, deltas, words, part);
+    if opened.number != 0 {
+        return AutomationAnswer::Refused(opened.number);
     }
-    let wanted = part as usize;
-    if entry.parts <= wanted {
-        return AutomationAnswer::Refused(7);
-    }
-    let p = piece::ticks_per_quarter(sizes);
-    let track = piece::part_track(sizes, deltas, words, wanted);
-    let from = track.from;
-    let to = track.to;
-    write_automation(p, &deltas[from..to], &words[from..to], ticks, out)
+    let p = tracks::ticks_per_quarter(sizes);
+    let from = opened.from;
+    let to = opened.to;
+    write_automation(p, cut(deltas, from, to), cut(words, from, to), ticks, out)
 }

@@ -14,10 +14,11 @@ use Rattle.laws.proofs.Order.{by-bool}
 use Rattle.track_events.specs.Track.{Track, eventsOf}
 use Rattle.track_events.proofs.Tracks.{timed-length}
 use Rattle.laws.proofs.Loops.{keep-left, keep-done}
+use Rattle.auxiliary_channels.specs.Markers.{Drops}
 use Rattle.automation_events.specs.declared.Kind.{Kind}
 use Rattle.automation_events.specs.declared.Kind.the-variants.{Bend, Controller, Program, Pressure}
 use Rattle.automation_events.specs.declared.Counts.{Counts}
-use Rattle.automation_events.specs.Kinds.{Drops, isOne, wanted, countOf, Counted, AtMost, AreCounts}
+use Rattle.automation_events.specs.Kinds.{isOne, wanted, countOf, Counted, AtMost, AreCounts}
 use Rattle.laws.proofs.Tests.{keep-few}
 use Rattle.automation_events.proofs.KindLaws.{wanted-automation}
 
@@ -28,7 +29,8 @@ pub record Counting (ws : List ℕ) (dropped : List Bool) (i : ℕ) (s : Counts)
   pub each : (k : Kind) → countOf k s + length (keep (wanted k dropped) (drop i ws)) ≡ length (keep (wanted k dropped) ws)
 
 -- events are kept as their words are
-keep-words : (f : ℕ → Bool) (n t : ℕ) (ds ws : List ℕ) → length ws ≡ length ds → length (keep (λ (e : Event). f (e .word)) (timed n t ds ws)) ≡ length (keep f ws)
+keep-words : (f : ℕ → Bool) (n t : ℕ) (ds ws : List ℕ) → length ws ≡ length ds
+    → length (keep (λ (e : Event). f (e .word)) (timed n t ds ws)) ≡ length (keep f ws)
 unfolding keep timed
 keep-words f n t [] [] e = refl
 keep-words f n t [] (w ∷ ws) e = absurd (omega arith)
@@ -75,7 +77,13 @@ counts-few {ds} {ws} track {r} counts =
     }
   where
     few : (k : Kind) → countOf k r ≡ length (automation (isOne k) (eventsOf ds ws)) → countOf k r ≤ mostEvents
-    few k e = omega (arith, keep-few (λ (e : Event). isOne k (e .word) && not (isDropped (eventsOf ds ws) (channelOf (e .word)))) (eventsOf ds ws), timed-length 0 0 ds ws (track .same), track .few)
+    few k e =
+        omega (
+          arith,
+          keep-few (λ (e : Event). isOne k (e .word) && not (isDropped (eventsOf ds ws) (channelOf (e .word)))) (eventsOf ds ws),
+          timed-length 0 0 ds ws (track .same),
+          track .few,
+        )
 
 module _ {es : List Event} {r : Counts} (counts : AreCounts es r) (p : ℕ) where
   total : length (allAutomation es) ≡ r .bends + r .controllers + r .programs + r .pressures

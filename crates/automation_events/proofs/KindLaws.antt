@@ -1,50 +1,25 @@
 -- The words of the four lists: their kinds are 10 to 14, so each names a channel below 16, and the array of dropped channels answers for it.
 use Prim.Native.Nat.{ℕ, suc, _+_, _≤_, _<_}
-use mathlib.Core.Bool.{Bool, true, false, not, _&&_}
+use mathlib.Core.Bool.{Bool, true, not, _&&_}
 use mathlib.Core.List.{List, [], _∷_}
 use mathlib.Core.Logic.{inl, inr, ⊎-elim}
 use mathlib.Core.Path.{_≡_}
 use native.Mathlib.Omega.{arith}
-use borrow.Author.Tests.{eqb-true, ne-eqb}
+use borrow.Author.Tests.{eqb-true}
 use Rattle.rules.specs.Lists.{All, keep}
 use Rattle.rules.specs.Piece.{Event, timed, kindOf, channelOf, wellFormed}
-use Rattle.rules.specs.Automation.{isAutomation, isDropped, automation}
+use Rattle.rules.specs.Automation.{isDropped, automation}
 use Rattle.laws.proofs.Lists.{All-imp}
-use Rattle.laws.proofs.Order.{by-bool, by-eq, by-or}
+use Rattle.laws.proofs.Order.{by-bool, by-or}
 use Rattle.track_events.specs.Track.{Track, eventsOf}
 use Rattle.track_events.proofs.Tracks.{channel-bounds}
+use Rattle.auxiliary_channels.specs.Markers.{Drops}
 use Rattle.automation_events.specs.declared.Kind.{Kind}
 use Rattle.automation_events.specs.declared.Kind.the-variants.{Bend, Controller, Program, Pressure}
-use Rattle.automation_events.specs.Kinds.{Drops, isOne, wanted}
+use Rattle.automation_events.specs.Kinds.{isOne, wanted}
 use Rattle.laws.proofs.Tests.{keep-same}
 
 module _ (w : ℕ) where
-  outside : (kindOf w ≡ 14 → ⊥) → (kindOf w ≡ 11 → ⊥) → (kindOf w ≡ 12 → ⊥) → (kindOf w ≡ 10 → ⊥) → (kindOf w ≡ 13 → ⊥) → isAutomation w ≡ false
-  outside a b c d e =
-      rw (ne-eqb (kindOf w) 14 a, ne-eqb (kindOf w) 11 b, ne-eqb (kindOf w) 12 c, ne-eqb (kindOf w) 10 d, ne-eqb (kindOf w) 13 e)
-
-  pub automation-low : kindOf w < 10 → isAutomation w ≡ false
-  automation-low h = outside (λ e. omega arith) (λ e. omega arith) (λ e. omega arith) (λ e. omega arith) (λ e. omega arith)
-
-  pub automation-high : 14 < kindOf w → isAutomation w ≡ false
-  automation-high h = outside (λ e. omega arith) (λ e. omega arith) (λ e. omega arith) (λ e. omega arith) (λ e. omega arith)
-
-  pub automation-kind : 10 ≤ kindOf w → kindOf w ≤ 14 → isAutomation w ≡ true
-  automation-kind l h =
-      elim (by-eq (kindOf w) 10) [
-        | inl e ↦ rw e
-        | inr e₁₀ ↦
-            elim (by-eq (kindOf w) 11) [
-              | inl e ↦ rw e
-              | inr e₁₁ ↦
-                  elim (by-eq (kindOf w) 12) [
-                    | inl e ↦ rw e
-                    | inr e₁₂ ↦
-                        elim (by-eq (kindOf w) 13) [ inl e ↦ rw e | inr e₁₃ ↦ let e : kindOf w ≡ 14 = omega arith in rw e ]
-                  ]
-            ]
-      ]
-
   kinds : (k : Kind) → isOne k w ≡ true → (10 ≤ kindOf w) × (kindOf w ≤ 14)
   kinds Bend h = let e : kindOf w ≡ 14 = eqb-true _ _ h in (omega arith, omega arith)
   kinds Controller h = let e : kindOf w ≡ 11 = eqb-true _ _ h in (omega arith, omega arith)

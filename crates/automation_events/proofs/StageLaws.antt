@@ -44,13 +44,16 @@ module _ {ds ws : List ℕ} {p : ℕ} {dropped : List Bool} {ticks₀ out₀ : L
           count = rw length-append (omega (arith, c .next, stage .count, ap length (is-list k)));
           inTicks =
               c .ticks
-              ∙ rw (is-list k, stage .inTicks, map-append) (written-more (map tick done) (map tick (listOf k)) ticks₀ n (stage .count ∙ sym (length-map done tick)));
+              ∙ rw (is-list k, stage .inTicks, map-append)
+              (written-more (map tick done) (map tick (listOf k)) ticks₀ n (stage .count ∙ sym (length-map done tick)));
           inWords =
               c .words
-              ∙ rw (is-list k, stage .inWords, map-append) (written-more (map word done) (map word (listOf k)) out₀ n (stage .count ∙ sym (length-map done word)));
+              ∙ rw (is-list k, stage .inWords, map-append)
+              (written-more (map word done) (map word (listOf k)) out₀ n (stage .count ∙ sym (length-map done word)));
         }
 
-    pub stage-room : (k : Kind) {x : Choice} → x ≡ choiceOf dropped p k → length done + length (listOf k) ≤ length (allAutomation (eventsOf ds ws)) → HasRoom (eventsOf ds ws) x n ticks out
+    pub stage-room : (k : Kind) {x : Choice} → x ≡ choiceOf dropped p k → length done + length (listOf k) ≤ length (allAutomation (eventsOf ds ws))
+        → HasRoom (eventsOf ds ws) x n ticks out
     unfolding automationLists
     stage-room k e fits =
         let tick : Event → ℕ = λ e. automationTick p (e .tick) in

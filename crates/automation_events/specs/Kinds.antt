@@ -1,19 +1,15 @@
 -- Which words each of the four lists holds, and what the functions that count and write them answer.
-use Prim.Native.Nat.{ℕ, _+_, _≤_, _<_}
+use Prim.Native.Nat.{ℕ, _+_, _≤_}
 use mathlib.Core.Bool.{Bool, false, not, _&&_}
 use mathlib.Core.List.{List}
 use mathlib.Core.Path.{_≡_}
 use lib.ListN.{getD}
 use Rattle.rules.specs.Lists.{flag}
 use Rattle.rules.specs.Piece.{Event, channelOf}
-use Rattle.rules.specs.Automation.{isBend, isController, isProgram, isPressure, isDropped, automationLists}
+use Rattle.rules.specs.Automation.{isBend, isController, isProgram, isPressure, automationLists}
 use Rattle.automation_events.specs.declared.Kind.{Kind}
 use Rattle.automation_events.specs.declared.Kind.the-variants.{Bend, Controller, Program, Pressure}
 use Rattle.automation_events.specs.declared.Counts.{Counts}
-
--- r says of each channel whether its automation is dropped
-pub record Drops (es : List Event) (r : List Bool) : Type 0 where
-  pub at : (ch : ℕ) → ch < 16 → getD r ch false ≡ isDropped es ch
 
 -- the words of a kind
 abbrev pub isOne : Kind → ℕ → Bool

@@ -1,4 +1,2 @@
 pub mod Kinds
-pub mod Markers
-pub mod Mirror
 pub mod Writing

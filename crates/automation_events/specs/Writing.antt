@@ -5,12 +5,13 @@ use mathlib.Core.List.{List, map, _++_}
 use mathlib.Core.Path.{_≡_}
 use lib.ListN.{length, set, take}
 use Rattle.rules.specs.Lists.{keep, flag, written}
-use Rattle.rules.specs.Piece.{Event, wellFormed}
+use Rattle.rules.specs.Piece.{Event, largestSize, wellFormed}
 use Rattle.rules.specs.Automation.{automationTick, automationLists}
 use Rattle.track_events.specs.Track.{Track, eventsOf}
 use Rattle.automation_events.specs.declared.Choice.{Choice}
 use Rattle.automation_events.specs.declared.Kind.{Kind}
-use Rattle.automation_events.specs.Kinds.{Drops, wanted}
+use Rattle.auxiliary_channels.specs.Markers.{Drops}
+use Rattle.automation_events.specs.Kinds.{wanted}
 
 abbrev pub choiceOf : List Bool → ℕ → Kind → Choice
 choiceOf dropped p k = record { kind = k; dropped = dropped; p = p }
@@ -24,7 +25,7 @@ pub record CanPut (ticks out : List ℕ) (n : ℕ) (x : Choice) (t w : ℕ) : Ty
   pub formed : wellFormed w ≡ true
   pub early : t < 2 ^ 48
   pub positive : 0 < x .p
-  pub small : x .p ≤ 65535
+  pub small : x .p ≤ largestSize
   pub room : chosen x w ≡ true → (n < length ticks) × (n < length out)
 
 -- the event is written at n where it is chosen
@@ -47,7 +48,7 @@ wordsOf x es = map (λ (e : Event). e .word) (chosenOf x es)
 
 pub record HasRoom (es : List Event) (x : Choice) (n : ℕ) (ticks₀ out₀ : List ℕ) : Type 0 where
   pub positive : 0 < x .p
-  pub small : x .p ≤ 65535
+  pub small : x .p ≤ largestSize
   pub ticks : n + length (chosenOf x es) ≤ length ticks₀
   pub words : n + length (chosenOf x es) ≤ length out₀
 
@@ -63,6 +64,6 @@ pub record CanCollect (ds ws : List ℕ) (p : ℕ) (dropped : List Bool) (ticks�
   pub track : Track ds ws
   pub drops : Drops (eventsOf ds ws) dropped
   pub positive : 0 < p
-  pub small : p ≤ 65535
+  pub small : p ≤ largestSize
   pub ticks : length (automationLists p (eventsOf ds ws) .ticks) ≤ length ticks₀
   pub words : length (automationLists p (eventsOf ds ws) .words) ≤ length out₀

@@ -17,7 +17,8 @@ use Rattle.bar_walk.specs.Walk.{firstWalker, AtBar, SameBar, Settled, Ro
 use Rattle.bar_walk.proofs.WalkLaws.{barOf, barsAhead, mark-is, ahead-last, ahead-more, ahead-some, ahead-end, ahead-all}
 
 -- bars from a walker's on, as if no meter was before
-printed-first : {ds ws : List ℕ} {w : Walker} → AtBar ds ws w → (end n : ℕ) → printed (barsAhead ds ws end n w) ≡ printedFrom (record { upper = 0; lower = 0 }) (barsAhead ds ws end n w)
+printed-first : {ds ws : List ℕ} {w : Walker} → AtBar ds ws w → (end n : ℕ)
+    → printed (barsAhead ds ws end n w) ≡ printedFrom (record { upper = 0; lower = 0 }) (barsAhead ds ws end n w)
 unfolding printedFrom barsFrom
 printed-first bar end zero = refl
 printed-first {w = w} bar end (suc n) =
@@ -55,7 +56,8 @@ out-start {ds} {ws} {w} end limit p starts marks s =
 module _ {ds ws : List ℕ} {end limit n : ℕ} {bs : List Bar} {starts₀ marks₀ starts marks : List ℕ} {w : Walker}
     (bar : AtBar ds ws w) (o : Out ds ws end limit n bs starts₀ marks₀ starts marks w) where
   counted : n + length (barsAhead ds ws end (limit - n) w) ≡ length bs
-  counted = omega (arith, filling-count (o .first), length-map (barsAhead ds ws end (limit - n) w) (λ (b : Bar). b .start), length-map bs (λ (b : Bar). b .start))
+  counted =
+      omega (arith, filling-count (o .first), length-map (barsAhead ds ws end (limit - n) w) (λ (b : Bar). b .start), length-map bs (λ (b : Bar). b .start))
 
   module _ (h : n < limit) (room : Room bs starts₀ marks₀) where
     pub in-starts : n < length starts
@@ -70,7 +72,9 @@ module _ {ds ws : List ℕ} {end limit n : ℕ} {bs : List Bar} {starts₀ marks
         let step = ahead-more bar end h s more in
         record {
           first = filling-more (w .start) in-starts (rw step at (o .first));
-          second = rw (before-same w (s .same)) (filling-more (markIn w) in-marks (rw (step, marks-more bar (barsAhead ds ws end (limit - (n + 1)) r)) at (o .second)));
+          second =
+              rw (before-same w (s .same))
+              (filling-more (markIn w) in-marks (rw (step, marks-more bar (barsAhead ds ws end (limit - (n + 1)) r)) at (o .second)));
         }
 
     -- the walker's bar was the last

@@ -1,6 +1,6 @@
 -- The walk by the track's events: a step over one event keeps that the first `at` events are taken, and once the next event
 -- lies after the bar's start, what is taken is what the definitions of section 4 say of the bar.
-use Prim.Native.Nat.{ℕ, _+_, _*_, _≤_, _<_, _^_, zero-le}
+use Prim.Native.Nat.{ℕ, _+_, _≤_, _<_, zero-le}
 use mathlib.Core.Bool.{Bool, false, cond, not, _&&_}
 use mathlib.Core.List.{List, [], _∷_, _++_, append-nil}
 use mathlib.Core.Logic.{inl, inr}
@@ -21,6 +21,7 @@ use Rattle.laws.proofs.Order.{by-bool}
 use Rattle.track_events.specs.Track.{Track, eventsOf, left, tickAt}
 use Rattle.track_events.proofs.Tracks.{left-cons, left-none, left-drop, tick-next, timed-length, timed-rises}
 use Rattle.changes.proofs.ChangeLaws.{lower-positive, head-lower}
+use Rattle.bar_marks.specs.Marks.{keyPacked}
 use Rattle.bar_walk.specs.declared.Walker.{Walker}
 use Rattle.bar_walk.specs.Steps.{meterIn, tookOne, nextOf}
 use Rattle.bar_walk.specs.Walk.{firstWalker, takenBy, leftFor, Taking, AtBar}
@@ -94,11 +95,11 @@ module _ {ds ws : List ℕ} (track : Track ds ws) {w : Walker} (t : Taking ds ws
         rw (taken-next, latest-more isTempo tempoIn (λ c. c .to) (λ c. eqb (c .tick) (w .start) && ltb 0 (w .start)) 0 (takenBy ds ws w) next)
         (ap (cond (isTempo next && (eqb (next .tick) (w .start) && ltb 0 (w .start))) (tempoOf (tempoValue (next .word)))) (t .tempo))
 
-    key-next : tookOne w (getD ds (w .at) 0) (next .word) .key * 2 ^ 27
+    key-next : keyPacked (tookOne w (getD ds (w .at) 0) (next .word) .fifths) (tookOne w (getD ds (w .at) 0) (next .word) .minor)
         ≡ keyBits (keyMark (keyChanges (take (w .at + 1) (eventsOf ds ws))) (w .start))
     key-next =
         rw (taken-next, latest-more isKey keyIn (λ c. some (c .to)) (λ c. eqb (c .tick) (w .start)) none (takenBy ds ws w) next)
-        (elim (by-bool (isKey next && eqb (next .tick) (w .start))) [ inl b ↦ rw b (omega arith) | inr b ↦ rw b (t .key) ])
+        (elim (by-bool (isKey next && eqb (next .tick) (w .start))) [ inl b ↦ rw b | inr b ↦ rw b (t .key) ])
 
     -- an event at or before the bar's start is taken
     pub walk-one : Taking ds ws (tookOne w (getD ds (w .at) 0) (getD ws (w .at) 0))

@@ -6,6 +6,7 @@ use mathlib.Core.Path.{_≡_, ap, _∙_}
 use native.Mathlib.Nat.{sub-zero}
 use native.Mathlib.Omega.{arith}
 use lib.ListN.{length}
+use Rattle.rules.specs.Piece.{largestSize}
 use Rattle.rules.specs.Changes.{sameMeter, tempoChanges, keyChanges}
 use Rattle.rules.specs.Bars.{Bar, barLength, barsFrom, barsIn, tempoMark, keyMark, markOf}
 use Rattle.laws.proofs.BarLaws.{barAt, bars-none, bars-last, bars-more, bars-some}
@@ -31,7 +32,9 @@ module _ {ds ws : List ℕ} {w : Walker} (bar : AtBar ds ws w) where
 
   -- the mark is the bar's
   pub mark-is : markIn w
-      ≡ markOf (meterIn w) (not (sameMeter (meterBefore w) (meterIn w))) (tempoMark (tempoChanges (eventsOf ds ws)) (w .start)) (keyMark (keyChanges (eventsOf ds ws)) (w .start))
+      ≡ markOf (meterIn w) (not (sameMeter (meterBefore w) (meterIn w)))
+      (tempoMark (tempoChanges (eventsOf ds ws)) (w .start))
+      (keyMark (keyChanges (eventsOf ds ws)) (w .start))
   mark-is = rw (← bar .tempo, ← bar .key)
 
 ahead-same : (w : Walker) {r : Walker} → SameBar (nextOf w) r → (ds ws : List ℕ) (end n : ℕ)
@@ -52,7 +55,7 @@ module _ {ds ws : List ℕ} {p : ℕ} where
 
   module _ {w : Walker} (k : Walking ds ws p w) where
     -- what `next_bar` asks
-    pub walking-sane : p ≤ 65535 → Sane w
+    pub walking-sane : p ≤ largestSize → Sane w
     walking-sane h = record { ticks = omega (arith, k .ticks); lower = k .bar .taken .lower; start = k .start }
 
     -- what `take_changes` asks, before the end

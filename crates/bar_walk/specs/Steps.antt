@@ -1,13 +1,13 @@
 -- The steps of the walk: one event, one bar.
-use Prim.Native.Nat.{ℕ, _+_, _*_, _≤_, _<_, _^_}
-use mathlib.Core.Bool.{Bool, true, cond, not, _&&_}
+use Prim.Native.Nat.{ℕ, _+_, _≤_, _<_, _^_}
+use mathlib.Core.Bool.{Bool, true, false, cond, not, _&&_}
 use mathlib.Core.Path.{_≡_}
 use lib.Dec.{eqb, ltb}
 use lib.IntN.{pos, natAbs, _+ℤ_}
-use Rattle.rules.specs.Lists.{flag}
-use Rattle.rules.specs.Piece.{isKind, wellFormed, tempoValue, upperFigure, lowerFigure, signedFifths, isMinor}
+use Rattle.rules.specs.Piece.{largestSize, isKind, wellFormed, tempoValue, upperFigure, lowerFigure, signedFifths, isMinor}
 use Rattle.rules.specs.Changes.{Meter, sameMeter, tempoOf, clampFifths}
 use Rattle.rules.specs.Bars.{barLength}
+use Rattle.bar_marks.specs.Marks.{packed}
 use Rattle.bar_walk.specs.declared.Walker.{Walker}
 
 -- the meter in force
@@ -28,7 +28,8 @@ newWalker p upper lower =
       «was_lower» = 0;
       start = 0;
       tempo = 0;
-      key = 0;
+      fifths = 0;
+      minor = false;
       at = 0;
       tick = 0;
     }
@@ -43,13 +44,13 @@ marksTempo t τ word = (isKind 2 word && not (eqb (tempoValue word) 0)) && (eqb 
 abbrev pub marksKey : ℕ → ℕ → ℕ → Bool
 marksKey t τ word = isKind 4 word && eqb τ t
 
--- a key's bits from bit 27 on: fifths + 8, and minor
-abbrev pub keyNumber : ℕ → ℕ
-keyNumber word = natAbs (clampFifths (signedFifths word) +ℤ pos 8) + flag (isMinor word) * 32
+-- a key's fifths + 8
+abbrev pub raisedFifths : ℕ → ℕ
+raisedFifths word = natAbs (clampFifths (signedFifths word) +ℤ pos 8)
 
 -- the walker with another meter, tempo and key
-abbrev pub withMarks : Walker → Meter → ℕ → ℕ → Walker
-withMarks w m tempo key =
+abbrev pub withMarks : Walker → Meter → ℕ → ℕ → Bool → Walker
+withMarks w m tempo fifths minor =
     record {
       p = w .p;
       upper = m .upper;
@@ -58,7 +59,8 @@ withMarks w m tempo key =
       «was_lower» = w .«was_lower»;
       start = w .start;
       tempo = tempo;
-      key = key;
+      fifths = fifths;
+      minor = minor;
       at = w .at;
       tick = w .tick;
     }
@@ -68,13 +70,17 @@ abbrev pub tookTempo : Walker → ℕ → Walker
 tookTempo w word =
     withMarks w (meterIn w)
     (cond (not (eqb (tempoValue word) 0) && (eqb (w .tick) (w .start) && ltb 0 (w .start))) (tempoOf (tempoValue word)) (w .tempo))
-    (w .key)
+    (w .fifths)
+    (w .minor)
 
 abbrev pub tookMeter : Walker → ℕ → Walker
-tookMeter w word = withMarks w (record { upper = upperFigure word; lower = lowerFigure word }) (w .tempo) (w .key)
+tookMeter w word = withMarks w (record { upper = upperFigure word; lower = lowerFigure word }) (w .tempo) (w .fifths) (w .minor)
 
 abbrev pub tookKey : Walker → ℕ → Walker
-tookKey w word = withMarks w (meterIn w) (w .tempo) (cond (eqb (w .tick) (w .start)) (keyNumber word) (w .key))
+tookKey w word =
+    withMarks w (meterIn w) (w .tempo)
+    (cond (eqb (w .tick) (w .start)) (raisedFifths word) (w .fifths))
+    (cond (eqb (w .tick) (w .start)) (isMinor word) (w .minor))
 
 -- one event: a meter holds from it on; a tempo or a key is marked where the bar starts at its tick
 abbrev pub tookOne : Walker → ℕ → ℕ → Walker
@@ -87,7 +93,8 @@ tookOne w delta word =
       «was_lower» = w .«was_lower»;
       start = w .start;
       tempo = cond (marksTempo (w .start) (w .tick + delta) word) (tempoOf (tempoValue word)) (w .tempo);
-      key = cond (marksKey (w .start) (w .tick + delta) word) (keyNumber word) (w .key);
+      fifths = cond (marksKey (w .start) (w .tick + delta) word) (raisedFifths word) (w .fifths);
+      minor = cond (marksKey (w .start) (w .tick + delta) word) (isMinor word) (w .minor);
       at = w .at + 1;
       tick = w .tick + delta;
     }
@@ -104,7 +111,8 @@ nextOf w =
       «was_lower» = w .lower;
       start = w .start + barLength (w .p) (meterIn w);
       tempo = 0;
-      key = 0;
+      fifths = 0;
+      minor = false;
       at = w .at;
       tick = w .tick;
     }
@@ -112,13 +120,20 @@ nextOf w =
 -- the bar's mark
 abbrev pub markIn : Walker → ℕ
 markIn w =
-    w .upper + w .lower * 2 ^ 8 + flag (not (sameMeter (meterBefore w) (meterIn w))) * 2 ^ 16 + w .tempo * 2 ^ 17 + w .key * 2 ^ 27
+    packed (record {
+      upper = w .upper;
+      lower = w .lower;
+      printed = not (sameMeter (meterBefore w) (meterIn w));
+      tempo = w .tempo;
+      fifths = w .fifths;
+      minor = w .minor;
+    })
 
 -- ---- what the steps ask
 
 -- a walker whose bar has a length and an end
 pub record Sane (w : Walker) : Type 0 where
-  pub ticks : w .p ≤ 65535
+  pub ticks : w .p ≤ largestSize
   pub lower : 0 < w .lower
   pub start : w .start < 2 ^ 48
 

@@ -1,14 +1,15 @@
 -- Where the walk stands, by the events of a track: between two events, and at a bar whose changes are taken.
-use Prim.Native.Nat.{ℕ, _*_, _≤_, _<_, _^_}
+use Prim.Native.Nat.{ℕ, _≤_, _<_, _^_}
 use mathlib.Core.List.{List}
 use mathlib.Core.Path.{_≡_}
 use lib.Dec.{leb}
 use lib.ListN.{length, take, drop}
 use Rattle.rules.specs.Lists.{keep, All, written}
-use Rattle.rules.specs.Piece.{Event}
+use Rattle.rules.specs.Piece.{Event, largestSize}
 use Rattle.rules.specs.Changes.{Meter, tempoChanges, meterChanges, keyChanges, firstMeter}
 use Rattle.rules.specs.Bars.{Bar, meterAt, tempoMark, keyMark, keyBits, startsOf, marksIn}
 use Rattle.track_events.specs.Track.{Track, eventsOf, tickAt}
+use Rattle.bar_marks.specs.Marks.{keyPacked}
 use Rattle.bar_walk.specs.declared.Walker.{Walker}
 use Rattle.bar_walk.specs.Steps.{meterIn, newWalker}
 
@@ -36,7 +37,7 @@ pub record Taking (ds ws : List ℕ) (w : Walker) : Type 0 where
   pub lower : 0 < w .lower
   pub meter : meterIn w ≡ meterAt (meterChanges (takenBy ds ws w)) (firstMeter (eventsOf ds ws)) (w .start)
   pub tempo : w .tempo ≡ tempoMark (tempoChanges (takenBy ds ws w)) (w .start)
-  pub key : w .key * 2 ^ 27 ≡ keyBits (keyMark (keyChanges (takenBy ds ws w)) (w .start))
+  pub key : keyPacked (w .fifths) (w .minor) ≡ keyBits (keyMark (keyChanges (takenBy ds ws w)) (w .start))
 
 -- The walker stands at a bar, and has taken every change at or before the bar's start.
 pub record AtBar (ds ws : List ℕ) (w : Walker) : Type 0 where
@@ -45,7 +46,7 @@ pub record AtBar (ds ws : List ℕ) (w : Walker) : Type 0 where
   pub at : w .at ≡ length (keep (λ (e : Event). leb (e .tick) (w .start)) (eventsOf ds ws))
   pub meter : meterIn w ≡ trackMeter ds ws (w .start)
   pub tempo : w .tempo ≡ tempoMark (tempoChanges (eventsOf ds ws)) (w .start)
-  pub key : w .key * 2 ^ 27 ≡ keyBits (keyMark (keyChanges (eventsOf ds ws)) (w .start))
+  pub key : keyPacked (w .fifths) (w .minor) ≡ keyBits (keyMark (keyChanges (eventsOf ds ws)) (w .start))
 
 -- a walker whose bar's changes can be taken
 pub record Ready (ds ws : List ℕ) (w : Walker) : Type 0 where
@@ -68,7 +69,7 @@ pub record Settled (ds ws : List ℕ) (w r : Walker) : Type 0 where
 -- a walk over a track, with p ticks per quarter, up to an end tick
 pub record CanWalk (ds ws : List ℕ) (p end : ℕ) : Type 0 where
   pub track : Track ds ws
-  pub ticks : p ≤ 65535
+  pub ticks : p ≤ largestSize
   pub end-fits : end < 2 ^ 48
 
 -- outputs with room for the bars bs

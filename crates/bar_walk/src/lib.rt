@@ -1,4 +1,5 @@
 // Section 4: the bars of a piece, walked one by one.
+use bar_marks::Mark;
 ghost use Prim.Native.Nat.{_<_};
 ghost use mathlib.Core.Path.{_≡_};
 ghost use mathlib.Core.Bool.{not};
@@ -7,7 +8,7 @@ ghost use Rattle.rules.specs.Piece.{byteB};
 ghost use Rattle.rules.specs.Changes.{sameMeter};
 ghost use Rattle.rules.specs.Bars.{barLength, barsIn};
 ghost use Rattle.track_events.specs.Track.{Track, eventsOf};
-ghost use Rattle.bar_walk.specs.Steps.{meterIn, meterBefore, newWalker, keyNumber, tookTempo, tookMeter, tookKey, tookOne, nextOf, markIn, Sane, Takes};
+ghost use Rattle.bar_walk.specs.Steps.{meterIn, meterBefore, newWalker, raisedFifths, tookTempo, tookMeter, tookKey, tookOne, nextOf, markIn, Sane, Takes};
 ghost use Rattle.bar_walk.specs.Walk.{firstWalker, Ready, Settled, CanWalk, Room, BarsAre};
 
 // The walk along the bars. It stands at the start of a bar; the first `at` events are taken.
@@ -20,10 +21,11 @@ pub struct Walker {
     // the meter of the bar before; 0/0 before the first bar
     pub was_upper: u32,
     pub was_lower: u32,
-    // the bar's start, and what is marked on it: 0 is absent
+    // the bar's start, and what is marked on it: tempo and fifths + 8, 0 where there is none, and minor
     pub start: u64,
     pub tempo: u32,
-    pub key: u32,
+    pub fifths: u32,
+    pub minor: bool,
     // the next event, and the tick reached before it
     pub at: usize,
     pub tick: u64,
@@ -41,7 +43,8 @@ impl Walker {
             was_lower: 0,
             start: 0,
             tempo: 0,
-            key: 0,
+            fifths: 0,
+            minor: false,
             at: 0,
             tick: 0,
         }
@@ -79,7 +82,8 @@ impl Walker {
         ensures { λ r. ⌜ r ≡ tookKey self word ⌝ }
     {
         if self.tick == self.start {
-            self.key = key_number(word);
+            self.fifths = raised_fifths(word);
+            self.minor = track_events::byte_b(word) == 1;
         }
         self
     }
@@ -143,7 +147,8 @@ impl Walker {
             was_lower: self.lower,
             start: self.start + length,
             tempo: 0,
-            key: 0,
+            fifths: 0,
+            minor: false,
             at: self.at,
             tick: self.tick,
         }
@@ -159,31 +164,26 @@ impl Walker {
         self.was_lower != self.lower
     }
 
-    // The bar's mark: bits 0 to 7 upper, 8 to 15 lower, 16 printed, 17 to 26 tempo, 27 to 31 fifths + 8, 32 minor.
+    // The bar's mark.
     pub fn mark(self) -> u64
         ensures { λ r. ⌜ r ≡ markIn self ⌝ }
     {
-        let bits = self.upper as u64
-            + self.lower as u64 * 256
-            + self.tempo as u64 * 131072
-            + self.key as u64 * 134217728;
-        if self.printed() {
-            return bits + 65536;
-        }
-        bits
+        bar_marks::pack(Mark {
+            upper: self.upper,
+            lower: self.lower,
+            printed: self.printed(),
+            tempo: self.tempo,
+            fifths: self.fifths,
+            minor: self.minor,
+        })
     }
 }
 
-// A key as 6 bits: fifths + 8, and 32 for minor.
-fn key_number(word: u32) -> u32
-    ensures { λ r. ⌜ r ≡ keyNumber word ⌝ }
+// A key's fifths + 8, 1 to 15.
+fn raised_fifths(word: u32) -> u32
+    ensures { λ r. ⌜ r ≡ raisedFifths word ⌝ }
 {
-    let x = track_events::take_apart(word);
-    let fifths = (changes::fifths_of(word) + 8) as u32;
-    if x.b == 1 {
-        return fifths + 32;
-    }
-    fifths
+    (changes::fifths_of(word) + 8) as u32
 }
 
 // The walker at the first bar: tick 0, with the head's meter, and the changes of tick 0 taken.

@@ -123,7 +123,8 @@ module _ (es left : List Event) (late : All (λ (e : Event). 0 < e .tick) left) 
   changes-late : {A : Type 0} (f : Event → Bool) (g : Event → A)
       → All (λ (c : Change A). 0 < c .tick) (map (λ (e : Event). record { tick = e .tick; to = g e }) (keep f left))
   changes-late f g =
-      All-map (λ c. 0 < c .tick) (λ (e : Event). record { tick = e .tick; to = g e }) (λ e k. k .0) (keep f left) (All-keep (λ (e : Event). 0 < e .tick) f left late)
+      All-map (λ c. 0 < c .tick) (λ (e : Event). record { tick = e .tick; to = g e }) (λ e k. k .0) (keep f left)
+      (All-keep (λ (e : Event). 0 < e .tick) f left late)
 
   pub reads-end : HeadIs (headIn es) (headRead r)
   reads-end =
@@ -158,4 +159,6 @@ module _ (ds ws : List ℕ) (i : ℕ) (h : i < length ds) (k : i < length ws) wh
       → Reads es (left 0 (i + 1) ds ws) (took r (getD ws i 0))
   reads-next es r d p =
       let still : 0 + getD ds i 0 ≡ 0 = omega arith in
-      rw still at (reads-one es (left (0 + getD ds i 0) (i + 1) ds ws) (record { number = i; tick = 0 + getD ds i 0; word = getD ws i 0 }) still r (rw (left-cons 0 i ds ws h k) at p))
+      rw still
+      at (reads-one es (left (0 + getD ds i 0) (i + 1) ds ws) (record { number = i; tick = 0 + getD ds i 0; word = getD ws i 0 }) still r
+      (rw (left-cons 0 i ds ws h k) at p))

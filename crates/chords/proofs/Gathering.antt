@@ -45,7 +45,8 @@ module _ (x : RawNote) (f : ℕ → Chord) (m : ℕ) where
       let below = down-same g f i (λ j l. there j (omega arith) (λ z. omega arith)) in
       let above = down-same (λ j. g (i + 1 + j)) (λ j. f (i + 1 + j)) k (λ j l. there (i + 1 + j) (omega arith) (λ z. omega arith)) in
       split g
-      ∙ rw (here, below, above) (sym (join-at x (down (λ j. f (i + 1 + j)) k) (f i) (down f i) front t) ∙ ap (λ (l : List Chord). joinOrOpen l x) (sym (split f)))
+      ∙ rw (here, below, above)
+      (sym (join-at x (down (λ j. f (i + 1 + j)) k) (f i) (down f i) front t) ∙ ap (λ (l : List Chord). joinOrOpen l x) (sym (split f)))
     where
       k : ℕ
       k = m - (i + 1)
@@ -144,7 +145,8 @@ module _ {n count m k : ℕ} {w w′ : List ℕ} {x : RawNote} (room : count ≤
             ∙ rw (s .here, down-same (chordAt n w₂) (chordAt n w′) m (λ j l. s .there j (omega arith) (λ z. omega arith))) (sym (f .opens e) ∙ one-more);
       }
 
-  pub gathering-join : {at : ℕ} {w₂ : List ℕ} → Found n m at x w′ → (at ≡ m → ⊥) → Stored n at (joined x (chordAt n w′ at)) w′ w₂ → Gathering n count m (k + 1) w w₂
+  pub gathering-join : {at : ℕ} {w₂ : List ℕ} → Found n m at x w′ → (at ≡ m → ⊥) → Stored n at (joined x (chordAt n w′ at)) w′ w₂
+      → Gathering n count m (k + 1) w w₂
   gathering-join {at} {w₂} f e s =
       let few = g .few in
       let within = f .within in

@@ -6,6 +6,7 @@ use native.Mathlib.Omega.{arith}
 use lib.ListN.{length, getD}
 use lib.Seq.{getD-take}
 use Rattle.rules.specs.Lists.{All}
+use Rattle.rules.specs.Piece.{largestSize}
 use Rattle.rules.specs.RawNotes.{RawNote}
 use Rattle.laws.specs.NoteWords.{startWord, endWord, NotesIn, InRange}
 use Rattle.laws.proofs.Lists.{All-get}
@@ -28,9 +29,15 @@ module _ {ns : List RawNote} {n m : ℕ} {w : List ℕ} (given : NotesIn ns n m 
       let r = in-range i h in
       let x : RawNote = getD ns i noNote in
       let p : getD w (n + i) 0 ≡ startWord x =
-      sym (part-get n n w i 0 (omega arith)) ∙ sym (getD-take m _ i 0 h) ∙ ap (λ (l : List ℕ). getD l i 0) (given .starts) ∙ getD-map startWord ns i 0 noNote (omega arith) in
+      sym (part-get n n w i 0 (omega arith))
+      ∙ sym (getD-take m _ i 0 h)
+      ∙ ap (λ (l : List ℕ). getD l i 0) (given .starts)
+      ∙ getD-map startWord ns i 0 noNote (omega arith) in
       let q : getD w i 0 ≡ endWord x =
-      sym (getD-take n w i 0 (omega arith)) ∙ sym (getD-take m _ i 0 h) ∙ ap (λ (l : List ℕ). getD l i 0) (given .ends) ∙ getD-map endWord ns i 0 noNote (omega arith) in
+      sym (getD-take n w i 0 (omega arith))
+      ∙ sym (getD-take m _ i 0 h)
+      ∙ ap (λ (l : List ℕ). getD l i 0) (given .ends)
+      ∙ getD-map endWord ns i 0 noNote (omega arith) in
       let s : getD w (n + i) 0 / 128 ≡ x .start = omega arith in
       let e : getD w i 0 / 16 ≡ x .end = omega arith in
       let k : getD w (n + i) 0 % 128 ≡ x .key = omega arith in
@@ -40,7 +47,7 @@ module _ {ns : List RawNote} {n m : ℕ} {w : List ℕ} (given : NotesIn ns n m 
   pub notes-read : upTo (noteAt n w) m ≡ ns
   notes-read = upTo-is (noteAt n w) m noNote ns (sym (given .all)) note-read
 
-  pub notes-ready : {g : ℕ} → 16 * n ≤ length w → 0 < g → g ≤ 65535 → Ready n m g w
+  pub notes-ready : {g : ℕ} → 16 * n ≤ length w → 0 < g → g ≤ largestSize → Ready n m g w
   notes-ready area p q =
       let all = given .all in
       let room = given .room in

@@ -46,7 +46,14 @@ chord-is s e k u = λ i. record { start = s i; end = e i; keys = k i; unpitched 
 -- two areas with the same five words have the same chord
 pub chord-same : (n i : ℕ) (w w′ : List ℕ) → ((a : ℕ) → 5 ≤ a → a ≤ 9 → getD w′ (a * n + i) 0 ≡ getD w (a * n + i) 0)
     → chordAt n w′ i ≡ chordAt n w i
-chord-same n i w w′ h = rw (h 5 (omega arith) (omega arith), h 6 (omega arith) (omega arith), h 7 (omega arith) (omega arith), h 8 (omega arith) (omega arith), h 9 (omega arith) (omega arith))
+chord-same n i w w′ h =
+    rw (
+      h 5 (omega arith) (omega arith),
+      h 6 (omega arith) (omega arith),
+      h 7 (omega arith) (omega arith),
+      h 8 (omega arith) (omega arith),
+      h 9 (omega arith) (omega arith),
+    )
 
 module _ (n i : ℕ) (w : List ℕ) (s e l h u : ℕ) where
   -- the area with the five words of a chord put in

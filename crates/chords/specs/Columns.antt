@@ -4,6 +4,7 @@ use mathlib.Core.List.{List, [], foldl, reverse}
 use mathlib.Core.Path.{_≡_}
 use lib.Dec.{eqb}
 use lib.ListN.{length, getD}
+use Rattle.rules.specs.Piece.{largestSize}
 use Rattle.rules.specs.RawNotes.{RawNote}
 use Rattle.rules.specs.Voices.{Chord, joinOrOpen}
 use Rattle.laws.specs.NoteWords.{InRange}
@@ -33,7 +34,7 @@ pub record Ready (n m g : ℕ) (w : List ℕ) : Type 0 where
   pub area : 16 * n ≤ length w
   pub room : m ≤ n
   pub some-grid : 0 < g
-  pub small-grid : g ≤ 65535
+  pub small-grid : g ≤ largestSize
   pub notes : (i : ℕ) → i < m → InRange (2 ^ 47) (noteAt n w i)
 
 -- ---- chords

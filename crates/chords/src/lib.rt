@@ -8,7 +8,7 @@
 //    7, 8       its keys: bit k of the low word is for key k, of the high word for key 64 + k
 //    9          1 if it is unpitched, else 0
 //    10 to 13   the numbers of the chords of voices 0 to 3, in order
-ghost use Prim.Native.Nat.{ℕ, _+_, _*_, _^_, _≤_, _<_, max};
+ghost use Prim.Native.Nat.{ℕ, _+_, _*_, _^_, _≤_, _<_};
 ghost use mathlib.Core.Path.{_≡_};
 ghost use lib.Bits.{bitOr};
 ghost use lib.ListN.{length, getD};
@@ -43,12 +43,6 @@ pub struct VoiceChord {
 
 // ---- snapped and sorted notes
 
-fn larger(a: u64, b: u64) -> u64
-    ensures { λ r. ⌜ r ≡ max a b ⌝ }
-{
-    if a < b { b } else { a }
-}
-
 // Snaps the notes: their words go to columns 4 and 5, a snapped end at least a step of the grid behind its start.
 fn snap_words(work: &mut [u64], n: usize, count: usize, g: u64)
     requires { ⌜ Ready n count g (now work) ⌝ }
@@ -59,7 +53,7 @@ fn snap_words(work: &mut [u64], n: usize, count: usize, g: u64)
         let start_word = work[n + i];
         let end_word = work[i];
         let start = grid::snap(start_word / 128, g);
-        let end = larger(grid::snap(end_word / 16, g), start + g);
+        let end = basics::larger(grid::snap(end_word / 16, g), start + g);
         work[4 * n + i] = start * 128 + (127 - start_word % 128);
         work[5 * n + i] = end * 16 + end_word % 16;
         i += 1;

@@ -25,12 +25,12 @@ fn write_diagnostics(
         (length (now (places .entry))) (length (now (details .entry))) (length (now (work .entry))))
         (now (places .entry)) (now (details .entry)) (diagnosticsAnswer r) (now (places .exit)) (now (details .exit)) ⌝ }
 {
-    let number = piece::admission(sizes, deltas, words);
-    if number != 0 {
-        return DiagnosticsAnswer::Refused(number);
+    let opened = opening::open_piece(sizes, deltas, words);
+    if opened.number != 0 {
+        return DiagnosticsAnswer::Refused(opened.number);
     }
-    let n = piece::survey(sizes, deltas, words).most;
-    if work.len() < 16 * n + 4096 {
+    let n = opened.most;
+    if work.len() < basics::work_for(n) {
         return DiagnosticsAnswer::Refused(8);
     }
     let count = loss_diagnostics::count_diagnostics(sizes, deltas, words, work, n);

@@ -24,7 +24,8 @@ use Rattle.laws.proofs.Order.{Past, past}
 use Rattle.duration.specs.Calls.{codeOf, fractionOf, codedCall, Exactly}
 use Rattle.duration.specs.declared.Fraction.{Fraction}
 use Rattle.duration.specs.declared.Duration.{Duration}
-use Rattle.duration.specs.declared.Duration.the-variants.{Longa, Breve, Whole, Half, Quarter, Eighth, Sixteenth, ThirtySecond, SixtyFourth, HundredTwentyEighth}
+use Rattle.duration.specs.declared.Duration.the-variants.{Longa, Breve, Whole, Half, Quarter, Eighth, Sixteenth}
+use Rattle.duration.specs.declared.Duration.the-variants.{ThirtySecond, SixtyFourth, HundredTwentyEighth}
 
 -- ---- a test at each value
 
@@ -64,7 +65,8 @@ unfolding below
 num-small d f e = rw e (leb→le _ _ (each (λ c. leb (fractionOf c .num) 4) tt d))
 
 pub fraction-at : (k : Duration) {d : Duration} → d ≡ k
-    → (fractionOf (codeOf k) ≡ fractionOf (codeOf d)) × ((0 < fractionOf (codeOf k) .den) × (fractionOf (codeOf k) .num * 2 ^ codeOf d ≡ 4 * fractionOf (codeOf k) .den))
+    → (fractionOf (codeOf k) ≡ fractionOf (codeOf d))
+    × ((0 < fractionOf (codeOf k) .den) × (fractionOf (codeOf k) .num * 2 ^ codeOf d ≡ 4 * fractionOf (codeOf k) .den))
 fraction-at k e = rw e (refl, (fraction-positive k, fraction-ratio k))
 
 -- ---- refusals
@@ -97,7 +99,8 @@ pub out-of-range : (code dots : ℕ) → refused 10 ≡ codedCall code → Exact
 unfolding unless
 out-of-range code dots e = go (ltb 9 code) e
   where
-    go : (b : Bool) → refused 10 ≡ cond b (refused 10) (given code) → Exactly (cond b (refused 10) (unless (badDots dots ∷ []) (beats256 code dots))) (refused 10)
+    go : (b : Bool) → refused 10 ≡ cond b (refused 10) (given code)
+        → Exactly (cond b (refused 10) (unless (badDots dots ∷ []) (beats256 code dots))) (refused 10)
     go true e = refl
     go false e = absurd (let z : _≡_ {A = ℕ} 0 1 = cc in omega arith)
 
@@ -136,7 +139,10 @@ base-small d = leb→le _ _ (each (λ c. leb (ticksOf 480 c 0) 7680) tt d)
 
 -- the base, as the code works it out
 based : (d : Duration)
-    → Is256 (div binary64 (mul binary64 (fin false 1 (pos 2)) (ofInt binary64 (pos (fractionOf (codeOf d) .num)))) (ofInt binary64 (pos (fractionOf (codeOf d) .den)))) (beats256 (codeOf d) 0)
+    → Is256
+    (div binary64 (mul binary64 (fin false 1 (pos 2)) (ofInt binary64 (pos (fractionOf (codeOf d) .num))))
+    (ofInt binary64 (pos (fractionOf (codeOf d) .den))))
+    (beats256 (codeOf d) 0)
 unfolding div mul ofInt round
 based Longa = (refl, refl)
 based Breve = (refl, refl)

@@ -7,7 +7,8 @@ use Rattle.laws.specs.Exact.{Is256}
 use Rattle.rules.specs.Refusals.{Result, refused, given, unless, badCode, badDots}
 use Rattle.rules.specs.Values.{ticks480}
 use Rattle.duration.specs.declared.Duration.{Duration}
-use Rattle.duration.specs.declared.Duration.the-variants.{Longa, Breve, Whole, Half, Quarter, Eighth, Sixteenth, ThirtySecond, SixtyFourth, HundredTwentyEighth}
+use Rattle.duration.specs.declared.Duration.the-variants.{Longa, Breve, Whole, Half, Quarter, Eighth, Sixteenth}
+use Rattle.duration.specs.declared.Duration.the-variants.{ThirtySecond, SixtyFourth, HundredTwentyEighth}
 use Rattle.duration.specs.declared.Fraction.{Fraction}
 use Rattle.duration.specs.declared.Coded as coded
 use Rattle.duration.specs.declared.Ticks as ticks

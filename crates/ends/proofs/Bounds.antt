@@ -110,7 +110,14 @@ module _ {ds ws : List ℕ} (track : Track ds ws) where
   ends-by : (b : ℕ) → last .pass .end ≤ b → sum ds ≤ b → trackEnd (eventsOf ds ws) ≤ b
   unfolding last nothing
   ends-by b h k =
-      omega (arith, sym (pass-finds (eventsOf ds ws) (timed-formed 0 0 ds ws (track .formed))), end-of-most (last .pass), h, k, pass-tick 0 0 ds ws nothing (track .same) refl)
+      omega (
+        arith,
+        sym (pass-finds (eventsOf ds ws) (timed-formed 0 0 ds ws (track .formed))),
+        end-of-most (last .pass),
+        h,
+        k,
+        pass-tick 0 0 ds ws nothing (track .same) refl,
+      )
 
   pub ends-soon : trackEnd (eventsOf ds ws) ≤ sum ds + 1
   unfolding last nothing

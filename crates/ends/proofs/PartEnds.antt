@@ -6,15 +6,15 @@ use mathlib.Core.Logic.{inl, inr}
 use mathlib.Core.Option.{Option, none, some}
 use mathlib.Core.Path.{_≡_, refl, sym, ap, _∙_}
 use native.Mathlib.Nat.{max-zero, zero-max}
-use native.Mathlib.Numerals.{add-one}
 use native.Mathlib.Omega.{arith}
 use borrow.Author.Tests.{lt-ltb}
 use lib.Dec.{ltb}
-use lib.ListN.{length, getD, take, drop, drop-of-length-le}
-use lib.Seq.{take-nil, drop-cons, drop-drop}
-use Rattle.rules.specs.Lists.{keep, sortBy, largest, isEmpty, sum, All}
-use Rattle.rules.specs.Piece.{Event, piece, cutTracks}
-use Rattle.rules.specs.RawNotes.{NoteEvent, noteEvents, RawNote, rawNote, Pairing, sameKey, takeOff, pairOne, noPairs, byChannel, byStart, rawNotesOf, rawNotes, lastTick, hasNotes, mostParts}
+use lib.ListN.{length, getD, take}
+use lib.Seq.{take-nil}
+use Rattle.rules.specs.Lists.{keep, sortBy, largest, isEmpty, All}
+use Rattle.rules.specs.Piece.{Event, piece}
+use Rattle.rules.specs.RawNotes.{NoteEvent, noteEvents, RawNote, rawNote, Pairing, sameKey, takeOff, pairOne, noPairs}
+use Rattle.rules.specs.RawNotes.{byChannel, byStart, rawNotesOf, rawNotes, lastTick, hasNotes, mostParts}
 use Rattle.rules.specs.Bars.{endOfPiece}
 use Rattle.laws.specs.Admitted.{Admitted}
 use Rattle.laws.proofs.Order.{by-bool}
@@ -22,9 +22,8 @@ use Rattle.laws.proofs.Lists.{All-all, All-append}
 use Rattle.laws.proofs.Folds.{foldl-keeps}
 use Rattle.laws.proofs.Sort.{All-sort}
 use Rattle.laws.proofs.Notes.{has-notes}
-use Rattle.laws.proofs.Refusals.{Agree, sizes-agree}
-use Rattle.track_events.specs.Track.{Track, eventsOf, stretch}
-use Rattle.track_events.proofs.Tracks.{track-part}
+use Rattle.track_events.specs.Track.{eventsOf, stretch}
+use Rattle.tracks.proofs.Cuts.{Cut, later, cut-start, cut-next, later-cons, later-none}
 use Rattle.ends.specs.declared.Sofar.{Sofar}
 use Rattle.ends.specs.Pass.{trackEnd}
 use Rattle.ends.specs.Sofar.{taken}
@@ -54,7 +53,8 @@ notes-end es =
     let p = foldl pairOne noPairs (noteEvents es) in
     All-sort byStart Ends _
     (All-append Ends (p .closed) _
-    (foldl-keeps pairOne (λ q. All Ends (q .closed)) (λ n. Unit {0}) (λ q n u h. one-ends q n h) (noteEvents es) noPairs (All-all (λ n. tt) (noteEvents es)) tt)
+    (foldl-keeps pairOne (λ q. All Ends (q .closed)) (λ n. Unit {0}) (λ q n u h. one-ends q n h)
+    (noteEvents es) noPairs (All-all (λ n. tt) (noteEvents es)) tt)
     (pending-end (lastTick es) (sortBy byChannel (p .pending))))
 
 some-end : (ns : List RawNote) → All Ends ns → ltb 0 (largest (map (λ (n : RawNote). n .end) ns)) ≡ not (isEmpty ns)
@@ -105,62 +105,31 @@ after-all s ess h = rw h (max-zero (s .end))
 -- ---- between two tracks
 
 pub record Between (s d w : List ℕ) (x : Sofar) (from i : ℕ) : Type 0 where
+  pub cut : Cut s d w i from
   pub few : x .parts ≤ mostParts
-  pub room : from + sum (drop i s) ≡ length d
-  pub rest : after x (cutTracks (drop i s) (drop from d) (drop from w)) ≡ endOfPiece (piece s d w)
+  pub rest : after x (later s d w i from) ≡ endOfPiece (piece s d w)
 
 taken-few : (s : Sofar) (e : ℕ) → s .parts < mostParts → taken s e .parts ≤ mostParts
 taken-few s e h = elim (by-bool (ltb 0 e)) [ inl t ↦ rw t (omega arith) | inr t ↦ rw t (omega arith) ]
 
-cut-next : (s d w : List ℕ) (from to i : ℕ) → to ≡ from + getD s i 0 → i < length s
-    → cutTracks (drop i s) (drop from d) (drop from w)
-    ≡ eventsOf (stretch from to d) (stretch from to w) ∷ cutTracks (drop (i + 1) s) (drop to d) (drop to w)
-unfolding cutTracks
-cut-next s d w from to i e h =
-    let size : to - from ≡ getD s i 0 = omega arith in
-    rw (drop-cons s i 0 h, size, e, drop-drop (getD s i 0) from d, drop-drop (getD s i 0) from w, add-one)
+pub between-first : {s d w : List ℕ} → Admitted (piece s d w) → Between s d w (record { parts = 0; end = 0 }) 0 2
+unfolding after partsEnd endOfPiece
+between-first {s} {d} {w} known =
+    record { cut = cut-start s d w (known .sizes); few = omega arith; rest = zero-max (endOfPiece (piece s d w)) }
 
-module _ {s d w : List ℕ} (known : Admitted (piece s d w)) where
-  agree : Agree (piece s d w)
-  agree = sizes-agree (piece s d w) (known .sizes)
-
-  pub whole : Track d w
-  whole =
+module _ {s d w : List ℕ} {x : Sofar} {from i : ℕ} (b : Between s d w x from i) where
+  pub between-next : i < length s → (x .parts ≡ mostParts → ⊥)
+      → Between s d w (taken x (trackEnd (eventsOf (stretch from (from + getD s i 0) d) (stretch from (from + getD s i 0) w)))) (from + getD s i 0) (i + 1)
+  between-next h n =
+      let few : x .parts < mostParts = omega (arith, b .few) in
       record {
-        same = agree .words ∙ sym (agree .deltas);
-        few = known .events;
-        small = known .deltas;
-        formed = known .words;
+        cut = cut-next (b .cut) h;
+        few = taken-few x (trackEnd (eventsOf (stretch from (from + getD s i 0) d) (stretch from (from + getD s i 0) w))) few;
+        rest = sym (ap (after x) (later-cons (b .cut) h) ∙ after-cons x _ _ few) ∙ b .rest;
       }
 
-  pub between-first : Between s d w (record { parts = 0; end = 0 }) 0 2
-  unfolding after partsEnd endOfPiece
-  between-first =
-      record { few = omega arith; room = omega (arith, agree .deltas); rest = zero-max (endOfPiece (piece s d w)) }
+  pub between-end : length s ≤ i → x .end ≡ endOfPiece (piece s d w)
+  between-end h = sym (ap (after x) (later-none s d w i from h) ∙ after-none x) ∙ b .rest
 
-  module _ {x : Sofar} {from i : ℕ} (b : Between s d w x from i) where
-    -- the track's events are within the arrays
-    pub track-within : i < length s → from + getD s i 0 ≤ length d
-    unfolding sum
-    track-within h = omega (arith, b .room, ap sum (drop-cons s i 0 h))
-
-    pub track-here : (to : ℕ) → to ≡ from + getD s i 0 → i < length s → Track (stretch from to d) (stretch from to w)
-    track-here to e h = track-part whole from to (omega arith) (omega (arith, track-within h))
-
-    pub between-next : (to : ℕ) → to ≡ from + getD s i 0 → i < length s → (x .parts ≡ mostParts → ⊥)
-        → Between s d w (taken x (trackEnd (eventsOf (stretch from to d) (stretch from to w)))) to (i + 1)
-    unfolding sum
-    between-next to e h n =
-        let few : x .parts < mostParts = omega (arith, b .few) in
-        record {
-          few = taken-few x (trackEnd (eventsOf (stretch from to d) (stretch from to w))) few;
-          room = rw add-one (omega (arith, b .room, ap sum (drop-cons s i 0 h)));
-          rest = sym (ap (after x) (cut-next s d w from to i e h) ∙ after-cons x _ _ few) ∙ b .rest;
-        }
-
-    pub between-end : length s ≤ i → x .end ≡ endOfPiece (piece s d w)
-    unfolding cutTracks
-    between-end h = sym (rw (drop-of-length-le s h) (after-none x)) ∙ b .rest
-
-    pub between-full : x .parts ≡ mostParts → x .end ≡ endOfPiece (piece s d w)
-    between-full h = sym (after-all x _ h) ∙ b .rest
+  pub between-full : x .parts ≡ mostParts → x .end ≡ endOfPiece (piece s d w)
+  between-full h = sym (after-all x _ h) ∙ b .rest

@@ -13,7 +13,8 @@ use lib.Dec.{eqb, ltb}
 use lib.ListN.{length, length-append}
 use Rattle.rules.specs.Lists.{keep, largest, lastOr, All}
 use Rattle.rules.specs.Piece.{Event, wellFormed, byteA, byteB, isOn, isOff}
-use Rattle.rules.specs.RawNotes.{NoteEvent, noteEvent, noteEvents, RawNote, rawNote, Pairing, sameKey, withoutOldest, takeOff, takeOn, pairOne, noPairs, byChannel, byStart, rawNotesOf}
+use Rattle.rules.specs.RawNotes.{NoteEvent, noteEvent, noteEvents, RawNote, rawNote, Pairing, sameKey, withoutOldest}
+use Rattle.rules.specs.RawNotes.{takeOff, takeOn, pairOne, noPairs, byChannel, byStart, rawNotesOf}
 use Rattle.laws.proofs.Order.{by-bool}
 use Rattle.track_events.proofs.Tracks.{note-bounds}
 use Rattle.ends.specs.declared.Pass.{Pass}
@@ -160,7 +161,8 @@ module _ {p : Pairing} {x : Reached} (a : Agrees p x) where
         (agrees-over (n .tick) (p .unmatched ++ (n ∷ [])))
     agrees-off (some s) e =
         let w = without n s (p .pending) e in
-        rw (lt-ltb 0 (cell (x .counts) (n .channel) (n .key)) (omega (arith, a .counts (n .channel) (n .key) h l, head-some (keep (sameKey n) (p .pending)) s e)))
+        rw (lt-ltb 0 (cell (x .counts) (n .channel) (n .key))
+        (omega (arith, a .counts (n .channel) (n .key) h l, head-some (keep (sameKey n) (p .pending)) s e)))
         record {
           grid = put-grid (x .counts) (n .channel) (n .key) _ (a .grid) h l;
           counts = λ c k hc hk.

@@ -1,9 +1,13 @@
 // The end of the piece, section 4's largest raw end of all parts, from one pass over each track that pairs nothing.
-ghost use Prim.Native.Nat.{_+_, _*_, _≤_, _<_, max};
+use admission::total;
+use basics::MOST_PARTS;
+use basics::larger;
+use basics::size;
+use track_events::cut;
+ghost use Prim.Native.Nat.{_+_, _*_, _≤_, _<_};
 ghost use mathlib.Core.Bool.{true};
 ghost use mathlib.Core.Path.{_≡_};
 ghost use Rattle.rules.specs.Piece.{piece, wellFormed};
-ghost use lib.ListN.{length};
 ghost use Rattle.rules.specs.Lists.{sum};
 ghost use Rattle.rules.specs.RawNotes.{mostParts, hasNotes};
 ghost use Rattle.rules.specs.Bars.{endOfPiece};
@@ -19,12 +23,6 @@ struct Pass {
     started: u32,
     ended: u32,
     end: u64,
-}
-
-fn larger(a: u64, b: u64) -> u64
-    ensures { λ r. ⌜ r ≡ max a b ⌝ }
-{
-    if a < b { b } else { a }
 }
 
 // A start at a tick: its note ends at the next tick or later.
@@ -116,7 +114,7 @@ pub fn end_of_track(deltas: &[u32], words: &[u32]) -> u64
 
 // The parts so far, and the largest end of their notes.
 struct Sofar {
-    parts: u32,
+    parts: usize,
     end: u64,
 }
 
@@ -132,27 +130,6 @@ fn taken(s: Sofar, e: u64) -> Sofar
         parts: s.parts + 1,
         end: larger(s.end, e),
     }
-}
-
-// The number, as a u64.
-fn long(x: u32) -> u64
-    ensures { λ r. ⌜ r ≡ x ⌝ }
-{
-    x as u64
-}
-
-// A track's last tick.
-fn last_tick(deltas: &[u32]) -> u64
-    requires { ⌜ length (now deltas) ≤ mostEvents ⌝ }
-    ensures { λ r. ⌜ r ≡ sum (now (deltas .entry)) ⌝ }
-{
-    let mut tick: u64 = 0;
-    let mut i = 0;
-    while i < deltas.len() {
-        tick += long(deltas[i]);
-        i += 1;
-    }
-    tick
 }
 
 // Whether no note starts at a track's last tick, so that none ends after it.
@@ -178,7 +155,7 @@ fn covered(deltas: &[u32], words: &[u32], end: u64) -> bool
     requires { ⌜ Track (now deltas) (now words) ⌝ }
     ensures { λ r. ⌜ (r ≡ true → trackEnd (eventsOf (now (deltas .entry)) (now (words .entry))) ≤ end) ⌝ }
 {
-    let last = last_tick(deltas);
+    let last = total(deltas);
     if last < end {
         return true;
     }
@@ -220,12 +197,6 @@ fn with_track(s: Sofar, deltas: &[u32], words: &[u32]) -> Sofar
     taken(s, end_of_track(deltas, words))
 }
 
-fn wide(x: u32) -> usize
-    ensures { λ r. ⌜ r ≡ x ⌝ }
-{
-    x as usize
-}
-
 // The largest raw end of all parts, the first 32 tracks that have notes.
 pub fn end_of_piece(sizes: &[u32], deltas: &[u32], words: &[u32]) -> u64
     requires { ⌜ Admitted (piece (now sizes) (now deltas) (now words)) ⌝ }
@@ -235,11 +206,11 @@ pub fn end_of_piece(sizes: &[u32], deltas: &[u32], words: &[u32]) -> u64
     let mut from = 0;
     let mut i = 2;
     while i < sizes.len() {
-        if s.parts == 32 {
+        if s.parts == MOST_PARTS {
             return s.end;
         }
-        let to = from + wide(sizes[i]);
-        s = with_track(s, &deltas[from..to], &words[from..to]);
+        let to = from + size(sizes[i]);
+        s = with_track(s, cut(deltas, from, to), cut(words, from, to));
         from = to;
         i += 1;
     }

@@ -1,39 +1,31 @@
--- What an engraving comes to, by the room of the outputs.
-use Prim.Native.Nat.{ℕ, _/_, _<_, _≤_}
+-- What writing a staff comes to, by the room of the outputs.
+use Prim.Native.Nat.{ℕ, _*_, _/_}
 use mathlib.Core.Bool.{true, false, false≢true}
 use mathlib.Core.List.{List}
-use mathlib.Core.Path.{_≡_, ap, _∙_}
+use mathlib.Core.Logic.{_⊎_, inl, inr, ⊎-elim}
+use mathlib.Core.Path.{_≡_, sym, ap, _∙_}
 use native.Mathlib.Omega.{arith}
-use borrow.Author.Tests.{lt-ltb, le-ltb}
+use borrow.Author.Tests.{lt-ltb, le-ltb, lt-leb, le-leb}
 use lib.ListN.{length, length-map}
-use Rattle.rules.specs.Lists.{written}
 use Rattle.rules.specs.Bars.{Bar}
 use Rattle.rules.specs.Items.{Staff, StaffArrays, headOf, itemsOf, arraysOf}
 use Rattle.rules.specs.Staff.{staffOf}
 use Rattle.rules.specs.Refusals.{Result, refused, given, unless}
 use Rattle.rules.specs.Calls.{StaffSize}
 use Rattle.rules.specs.Voices.{Chord}
+use Rattle.laws.proofs.Order.{by-lt}
 use Rattle.items.proofs.Appending.{keys-length}
 use Rattle.staff.specs.Staffs.{StaffRoom, StaffPut}
 use Rattle.staff.specs.declared.Engraving.{Engraving}
 use Rattle.staff.proofs.StaffSizes.{counts-length}
-use Rattle.engraver.specs.Parts.{outcome, Outputs}
+use Rattle.engraver.specs.Sizes.{sizeBy, roomFor, outcome, Outputs}
 
 -- nothing is asked of outputs that are not written
 pub no-room : (st : Staff) (counts heads keys : List ℕ) → StaffRoom false st counts heads keys
 no-room st counts heads keys =
     record { counts-fit = λ e. absurd (false≢true e); heads-fit = λ e. absurd (false≢true e); keys-fit = λ e. absurd (false≢true e) }
 
-pub room-kept : {st : Staff} {counts heads keys counts₁ heads₁ keys₁ : List ℕ} → length counts₁ ≡ length counts → length heads₁ ≡ length heads
-    → length keys₁ ≡ length keys → StaffRoom true st counts heads keys → StaffRoom true st counts₁ heads₁ keys₁
-room-kept c h k r =
-    record {
-      counts-fit = λ e. omega (arith, c, r .counts-fit e);
-      heads-fit = λ e. omega (arith, h, r .heads-fit e);
-      keys-fit = λ e. omega (arith, k, r .keys-fit e);
-    }
-
-module _ (p : ℕ) (vs : List (List Chord)) (four : length vs ≡ 4) (bs : List Bar) where
+module _ (p : ℕ) (vs : List (List Chord)) (four : length vs ≡ 4) (bs : List Bar) (counts heads keys : List ℕ) where
   abbrev st : Staff
   st = staffOf p vs bs
 
@@ -41,70 +33,107 @@ module _ (p : ℕ) (vs : List (List Chord)) (four : length vs ≡ 4) (bs : List 
   arrays = arraysOf st
 
   abbrev size : StaffSize
-  size = record { bars = length bs; items = length (itemsOf st) }
+  size = sizeBy p bs vs
 
-  heads-length : length (arrays .heads) ≡ length (itemsOf st)
-  heads-length = length-map (itemsOf st) headOf
+  abbrev result : Result StaffArrays
+  result = outcome arrays (length counts) (length heads) (length keys)
 
-  module _ (counts heads keys : List ℕ) where
-    abbrev result : Result StaffArrays
-    result = outcome arrays (length counts) (length heads) (length keys)
+  counts-many : length (arrays .counts) ≡ 4 * length bs
+  counts-many = counts-length p vs four bs
 
-    pub counts-short : length counts / 4 < length bs → result ≡ refused 8
-    unfolding unless
-    counts-short h = rw (lt-ltb (length counts) (length (arrays .counts)) (omega (arith, counts-length p vs four bs)))
+  heads-many : length (arrays .heads) ≡ length (itemsOf st)
+  heads-many = length-map (itemsOf st) headOf
 
-    module _ (h : length bs ≤ length counts / 4) where
-      enough-counts : length (arrays .counts) ≤ length counts
-      enough-counts = omega (arith, counts-length p vs four bs)
+  keys-many : length (arrays .keys) ≡ 2 * length (itemsOf st)
+  keys-many = keys-length (itemsOf st)
 
-      pub heads-short : length heads < length (itemsOf st) → result ≡ refused 8
-      unfolding unless
-      heads-short k =
-          rw (le-ltb (length counts) (length (arrays .counts)) enough-counts, lt-ltb (length heads) (length (arrays .heads)) (omega (arith, heads-length)))
+  -- each output has room, or one has not
+  pub record Enough : Type 0 where
+    pub told : roomFor size (length counts) (length heads) (length keys) ≡ true
+    pub is : result ≡ given arrays
+    pub room : StaffRoom true st counts heads keys
 
-      module _ (k : length (itemsOf st) ≤ length heads) where
-        enough-heads : length (arrays .heads) ≤ length heads
-        enough-heads = omega (arith, heads-length)
+  pub record Short : Type 0 where
+    pub told : roomFor size (length counts) (length heads) (length keys) ≡ false
+    pub is : result ≡ refused 8
 
-        pub keys-short : length keys / 2 < length (itemsOf st) → result ≡ refused 8
-        unfolding unless
-        keys-short l =
-            rw (
-              le-ltb (length counts) (length (arrays .counts)) enough-counts,
-              le-ltb (length heads) (length (arrays .heads)) enough-heads,
-              lt-ltb (length keys) (length (arrays .keys)) (omega (arith, keys-length (itemsOf st))),
-            )
+  by-room : Enough ⊎ Short
+  unfolding unless
+  by-room =
+      elim (by-lt (length counts / 4) (length bs)) [
+        | inl short ↦
+            inr (record {
+              told = rw (lt-leb (length bs) (length counts / 4) short);
+              is = rw (lt-ltb (length counts) (length (arrays .counts)) (omega (arith, counts-many)));
+            })
+        | inr c ↦
+            elim (by-lt (length heads) (length (itemsOf st))) [
+              | inl short ↦
+                  inr (record {
+                    told = rw (le-leb (length bs) (length counts / 4) c, lt-leb (length (itemsOf st)) (length heads) short);
+                    is =
+                        rw (
+                          le-ltb (length counts) (length (arrays .counts)) (omega (arith, counts-many)),
+                          lt-ltb (length heads) (length (arrays .heads)) (omega (arith, heads-many)),
+                        );
+                  })
+              | inr h ↦
+                  elim (by-lt (length keys / 2) (length (itemsOf st))) [
+                    | inl short ↦
+                        inr (record {
+                          told =
+                              rw (
+                                le-leb (length bs) (length counts / 4) c,
+                                le-leb (length (itemsOf st)) (length heads) h,
+                                lt-leb (length (itemsOf st)) (length keys / 2) short,
+                              );
+                          is =
+                              rw (
+                                le-ltb (length counts) (length (arrays .counts)) (omega (arith, counts-many)),
+                                le-ltb (length heads) (length (arrays .heads)) (omega (arith, heads-many)),
+                                lt-ltb (length keys) (length (arrays .keys)) (omega (arith, keys-many)),
+                              );
+                        })
+                    | inr k ↦
+                        inl (record {
+                          told =
+                              rw (
+                                le-leb (length bs) (length counts / 4) c,
+                                le-leb (length (itemsOf st)) (length heads) h,
+                                le-leb (length (itemsOf st)) (length keys / 2) k,
+                              );
+                          is =
+                              rw (
+                                le-ltb (length counts) (length (arrays .counts)) (omega (arith, counts-many)),
+                                le-ltb (length heads) (length (arrays .heads)) (omega (arith, heads-many)),
+                                le-ltb (length keys) (length (arrays .keys)) (omega (arith, keys-many)),
+                              );
+                          room =
+                              record {
+                                counts-fit = λ e. omega (arith, counts-many);
+                                heads-fit = λ e. omega (arith, heads-many);
+                                keys-fit = λ e. omega (arith, keys-many);
+                              };
+                        })
+                  ]
+            ]
+      ]
 
-        module _ (l : length (itemsOf st) ≤ length keys / 2) where
-          enough-keys : length (arrays .keys) ≤ length keys
-          enough-keys = omega (arith, keys-length (itemsOf st))
+  -- the test says which
+  pub enough : roomFor size (length counts) (length heads) (length keys) ≡ true → Enough
+  enough e = ⊎-elim (λ w. w) (λ w. absurd (false≢true (sym (w .told) ∙ e))) by-room
 
-          pub enough : result ≡ given arrays
-          unfolding unless
-          enough =
-              rw (
-                le-ltb (length counts) (length (arrays .counts)) enough-counts,
-                le-ltb (length heads) (length (arrays .heads)) enough-heads,
-                le-ltb (length keys) (length (arrays .keys)) enough-keys,
-              )
+  short : roomFor size (length counts) (length heads) (length keys) ≡ false → Short
+  short e = ⊎-elim (λ w. absurd (false≢true (sym e ∙ w .told))) (λ w. w) by-room
 
-          pub has-room : StaffRoom true st counts heads keys
-          has-room = record { counts-fit = λ e. enough-counts; heads-fit = λ e. enough-heads; keys-fit = λ e. enough-keys }
+  -- no room, and nothing written
+  pub left-out : roomFor size (length counts) (length heads) (length keys) ≡ false → Outputs size result counts heads keys counts heads keys (refused 8)
+  left-out e = let is = short e .is in record { answered = rw is; counts = rw is; heads = rw is; keys = rw is }
 
-    -- the staff was counted, and nothing written
-    module _ {counts₁ heads₁ keys₁ : List ℕ} {s : Engraving} (counted : StaffPut false bs st counts heads keys counts₁ heads₁ keys₁ s) where
-      pub turned-back : (n : ℕ) → result ≡ refused n → Outputs size result counts heads keys counts₁ heads₁ keys₁ (refused n)
-      turned-back n e =
-          record { answered = rw e; counts = rw e (counted .counts .is); heads = rw e (counted .heads .is); keys = rw e (counted .keys .is) }
-
-      pub written-out : {counts₂ heads₂ keys₂ : List ℕ} {r : Engraving} → result ≡ given arrays
-          → StaffPut true bs st counts₁ heads₁ keys₁ counts₂ heads₂ keys₂ r
-          → Outputs size result counts heads keys counts₂ heads₂ keys₂ (given (record { bars = s .bars; items = s .items }))
-      written-out e put =
-          record {
-            answered = rw e (rw (counted .bars, counted .items));
-            counts = rw e (put .counts .is ∙ ap (written (arrays .counts)) (counted .counts .is));
-            heads = rw e (put .heads .is ∙ ap (written (arrays .heads)) (counted .heads .is));
-            keys = rw e (put .keys .is ∙ ap (written (arrays .keys)) (counted .keys .is));
-          }
+  -- the staff is written
+  pub written-out : {counts₁ heads₁ keys₁ : List ℕ} {r : Engraving} {s : StaffSize}
+      → roomFor size (length counts) (length heads) (length keys) ≡ true → s ≡ size
+      → StaffPut true bs st counts heads keys counts₁ heads₁ keys₁ r → Outputs size result counts heads keys counts₁ heads₁ keys₁ (given s)
+  written-out e same put =
+      let is = enough e .is in
+      record { answered = rw is (ap given same); counts = rw is (put .counts .is); heads = rw is (put .heads .is); keys = rw is (put .keys .is) }

@@ -4,6 +4,7 @@ use mathlib.Core.List.{List, map}
 use mathlib.Core.Path.{_≡_}
 use lib.ListN.{length}
 use lib.Seq.{sets}
+use Rattle.rules.specs.Piece.{largestSize}
 use Rattle.rules.specs.Diagnostics as rules
 use Rattle.rules.specs.Diagnostics.{absent, placeOf, detailOf}
 use Rattle.findings.specs.declared.Diagnostic.{Diagnostic}
@@ -28,7 +29,7 @@ onAt track event tick channel key =
 -- place and detail have room for each part
 pub record Packs (d : Diagnostic) : Type 0 where
   pub code : d .code ≤ 5
-  pub track : d .track ≤ 65535
+  pub track : d .track ≤ largestSize
   pub event : d .event < 2 ^ 32
   pub tick : d .tick < 2 ^ 47
   pub channel : d .channel ≤ 255

@@ -1,12 +1,11 @@
 -- The count of starts before event k: with those of the events left it makes the part's raw notes, and those of them off the grid.
 use Prim.Native.Nat.{ℕ, _+_, _*_, _/_, _≤_, _<_, max}
-use mathlib.Core.Bool.{Bool, true, false, _&&_}
+use mathlib.Core.Bool.{Bool, _&&_}
 use mathlib.Core.List.{List}
 use mathlib.Core.Path.{_≡_, ap}
 use native.Mathlib.Omega.{arith}
 use borrow.Author.Tests.{lt-ltb, le-ltb}
 use lib.ListN.{length, getD}
-use Rattle.rules.specs.Lists.{flag}
 use Rattle.rules.specs.Grid.{sixteenth, isOffGrid, offCount, grid}
 use Rattle.rules.specs.Piece.{Event, isOn}
 use Rattle.rules.specs.RawNotes.{rawNotes}
@@ -17,7 +16,7 @@ use Rattle.track_events.specs.Track.{Track, eventsOf, left}
 use Rattle.track_events.proofs.Tracks.{left-cons, left-none}
 use Rattle.grid.specs.declared.Starts.{Starts}
 use Rattle.grid.specs.Counts.{counted}
-use Rattle.laws.proofs.Tests.{tally, tally-keeps}
+use Rattle.laws.proofs.Tests.{flag-small, tally, tally-keeps}
 use Rattle.grid.proofs.StartCounts.{start-counts}
 
 abbrev starts : Event → Bool
@@ -28,10 +27,6 @@ startsOff p e = isOn (e .word) && isOffGrid p (e .tick)
 
 abbrev none : Starts
 none = record { tick = 0; ons = 0; offs = 0 }
-
-flag-small : (b : Bool) → flag b ≤ 1
-flag-small true = omega arith
-flag-small false = omega arith
 
 pub record Counting (p : ℕ) (ds ws : List ℕ) (s : Starts) (k : ℕ) : Type 0 where
   pub within : k ≤ length ds

@@ -8,7 +8,8 @@ use mathlib.Core.Path.{_≡_, refl, sym, _∙_}
 use native.Mathlib.Omega.{arith}
 use Rattle.rules.specs.Lists.{keep, flag, sortBy}
 use Rattle.rules.specs.Piece.{Event, isOn, isOff}
-use Rattle.rules.specs.RawNotes.{NoteEvent, noteEvent, noteEvents, RawNote, rawNote, Pairing, sameKey, withoutOldest, takeOff, takeOn, pairOne, noPairs, pairing, byChannel, byStart, rawNotesOf, rawNotes, lastTick}
+use Rattle.rules.specs.RawNotes.{NoteEvent, noteEvent, noteEvents, RawNote, rawNote, Pairing, sameKey, withoutOldest, takeOff}
+use Rattle.rules.specs.RawNotes.{takeOn, pairOne, noPairs, pairing, byChannel, byStart, rawNotesOf, rawNotes, lastTick}
 use Rattle.grid.specs.Counts.{StartCounts}
 use Rattle.laws.proofs.Tests.{tally, tally-keeps, tally-append, tally-map, tally-kept, tally-sort}
 

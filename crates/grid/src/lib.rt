@@ -2,6 +2,7 @@
 ghost use Prim.Native.Nat.{_<_, _≤_, _^_, max};
 ghost use mathlib.Core.Path.{_≡_};
 ghost use Rattle.rules.specs.Grid.{sixteenth, isOffGrid, grid, snap};
+ghost use Rattle.rules.specs.Piece.{largestSize};
 ghost use Rattle.rules.specs.RawNotes.{rawNotes};
 ghost use Rattle.track_events.specs.Track.{Track, eventsOf};
 ghost use Rattle.grid.specs.Counts.{counted};
@@ -88,7 +89,7 @@ pub fn grid_ticks(deltas: &[u32], words: &[u32], p: u64) -> u64
 
 // The nearest place on the grid; the later of two.
 pub fn snap(tick: u64, grid: u64) -> u64
-    requires { ⌜ (0 < grid) × (tick < 2 ^ 48) × (grid ≤ 65535) ⌝ }
+    requires { ⌜ (0 < grid) × (tick < 2 ^ 48) × (grid ≤ largestSize) ⌝ }
     ensures { λ r. ⌜ r ≡ snap grid tick ⌝ }
 {
     (tick + grid / 2) / grid * grid

@@ -8,8 +8,8 @@ use Rattle.rules.specs.Piece.{Event}
 use Rattle.rules.specs.Refusals.{given}
 use Rattle.track_events.specs.Track.{stretch}
 use Rattle.track_events.proofs.Tracks.{length-stretch}
-use Rattle.piece.specs.Spans.{IsSpan}
-use Rattle.piece.specs.declared.Span.{Span}
+use Rattle.tracks.specs.Spans.{IsSpan}
+use Rattle.tracks.specs.declared.Span.{Span}
 use Rattle.changes.specs.Heads.{HeadIs, PartHeadIs}
 use Rattle.changes.specs.declared.PartHead.{PartHead}
 use Rattle.changes.specs.declared.Head.{Head}

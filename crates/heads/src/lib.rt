@@ -15,14 +15,14 @@ pub enum HeadAnswer {
 pub fn head(sizes: &[u32], deltas: &[u32], words: &[u32]) -> HeadAnswer
     ensures { λ r. ⌜ HeadCalled (piece (now (sizes .entry)) (now (deltas .entry)) (now (words .entry))) r ⌝ }
 {
-    let entry = entering::enter(sizes, deltas, words);
-    if entry.number != 0 {
-        return HeadAnswer::Refused(entry.number);
+    let opened = opening::open_notes(sizes, deltas, words);
+    if opened.number != 0 {
+        return HeadAnswer::Refused(opened.number);
     }
-    let track = piece::first_track(sizes);
-    let from = track.from;
-    let to = track.to;
-    HeadAnswer::Given(changes::read_head(&deltas[from..to], &words[from..to]))
+    let track = tracks::first_track(sizes);
+    let first_deltas = track_events::cut(deltas, track.from, track.to);
+    let first_words = track_events::cut(words, track.from, track.to);
+    HeadAnswer::Given(changes::read_head(first_deltas, first_words))
 }
 
 pub enum PartCountAnswer {
@@ -34,11 +34,11 @@ pub enum PartCountAnswer {
 pub fn part_count(sizes: &[u32], deltas: &[u32], words: &[u32]) -> PartCountAnswer
     ensures { λ r. ⌜ countAnswer r ≡ partCountCall (piece (now (sizes .entry)) (now (deltas .entry)) (now (words .entry))) ⌝ }
 {
-    let entry = entering::enter(sizes, deltas, words);
-    if entry.number != 0 {
-        return PartCountAnswer::Refused(entry.number);
+    let opened = opening::open_notes(sizes, deltas, words);
+    if opened.number != 0 {
+        return PartCountAnswer::Refused(opened.number);
     }
-    PartCountAnswer::Given(entry.parts as u32)
+    PartCountAnswer::Given(opened.parts as u32)
 }
 
 pub enum PartHeadAnswer {
@@ -50,16 +50,13 @@ pub enum PartHeadAnswer {
 pub fn part_head(sizes: &[u32], deltas: &[u32], words: &[u32], part: u32) -> PartHeadAnswer
     ensures { λ r. ⌜ partHeadAnswer r ≡ partHeadCall (piece (now (sizes .entry)) (now (deltas .entry)) (now (words .entry))) part ⌝ }
 {
-    let entry = entering::enter(sizes, deltas, words);
-    if entry.number != 0 {
-        return PartHeadAnswer::Refused(entry.number);
+    let opened = opening::open_part(sizes, deltas, words, part);
+    if opened.number != 0 {
+        return PartHeadAnswer::Refused(opened.number);
     }
-    let k = part as usize;
-    if entry.parts <= k {
-        return PartHeadAnswer::Refused(7);
-    }
-    let track = piece::part_track(sizes, deltas, words, k);
-    let from = track.from;
-    let to = track.to;
-    PartHeadAnswer::Given(changes::extract_program(&words[from..to]))
+    PartHeadAnswer::Given(changes::extract_program(track_events::cut(
+        words,
+        opened.from,
+        opened.to,
+    )))
 }

@@ -29,7 +29,8 @@ module _ {table : List ℕ} (t : IsTable table) {ticks from : ℕ} where
             record {
               is =
                   s .is
-                  ∙ rw (s .next, ← length-map (splitSpan (quarter table) ticks .pieces) (values.pieceWord bits)) (sym (put-parts (spanWords (quarter table) ticks bits) from heads₀));
+                  ∙ rw (s .next, ← length-map (splitSpan (quarter table) ticks .pieces) (values.pieceWord bits))
+                  (sym (put-parts (spanWords (quarter table) ticks bits) from heads₀));
             };
         keys = record { is = rw many at k };
       }

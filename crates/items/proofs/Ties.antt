@@ -132,8 +132,10 @@ freed-pieces c isIn isOut (v ∷ vs) from l h =
     let many : length ws ≡ suc (length vs) = length-map (v ∷ vs) (pieceWord (tiedBits (c .unpitched))) in
     let place : from + length (v ∷ vs) - 1 ≡ from + length vs = omega arith in
     rw (lt-ltb from (from + length (v ∷ vs)) (omega arith), place)
-    (ap (untied 64 (from + length vs) isOut) (ap (λ (i : ℕ). untied 32 i isIn (putAt ws from l)) (sym (add-zero from)) ∙ untied-put ws from l (omega arith) 32 0 isIn (omega arith))
-    ∙ untied-put (untied 32 0 isIn ws) from l (rw (untied-length 32 0 isIn ws) (omega arith)) 64 (length vs) isOut (rw (untied-length 32 0 isIn ws) (omega arith))
+    (ap (untied 64 (from + length vs) isOut)
+    (ap (λ (i : ℕ). untied 32 i isIn (putAt ws from l)) (sym (add-zero from)) ∙ untied-put ws from l (omega arith) 32 0 isIn (omega arith))
+    ∙ untied-put (untied 32 0 isIn ws) from l (rw (untied-length 32 0 isIn ws) (omega arith)) 64 (length vs) isOut
+    (rw (untied-length 32 0 isIn ws) (omega arith))
     ∙ ap (λ (ys : List ℕ). putAt ys from l) (piece-heads c isIn isOut v vs))
 
 pub span-pieces : (c : Chord) (k : Keys) (isIn isOut : Bool) {w : Bool} {p t from : ℕ} {heads₀ keys₀ heads₁ keys₁ heads₂ : List ℕ} {r : ℕ}

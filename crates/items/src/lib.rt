@@ -1,6 +1,6 @@
 // Section 7, items: rests and the pieces of chords in a bar, written to lent outputs from a place on. Each function is told whether to
 // write: where it is not, the items are counted, and no output changes.
-ghost use Prim.Native.Nat.{_+_, _-_, _*_, _<_, _≤_, _^_, min, max};
+ghost use Prim.Native.Nat.{_+_, _-_, _*_, _<_, _≤_, _^_, min};
 ghost use mathlib.Core.Bool.{false, _&&_};
 ghost use mathlib.Core.Path.{_≡_};
 ghost use lib.Dec.{ltb};
@@ -17,12 +17,6 @@ use chords::VoiceChord;
 pub struct Measure {
     pub start: u64,
     pub end: u64,
-}
-
-fn larger(a: u64, b: u64) -> u64
-    ensures { λ r. ⌜ r ≡ max a b ⌝ }
-{
-    if a < b { b } else { a }
 }
 
 pub fn smaller(a: u64, b: u64) -> u64
@@ -134,7 +128,7 @@ pub fn push_chord(
     ensures { λ r. ⌜ Items write (chordIn (quarter (now (values .entry))) (bar .start) (bar .end) (chordOf c)) from
         (now (heads .entry)) (now (keys .entry)) (now (heads .exit)) (now (keys .exit)) r ⌝ }
 {
-    let ticks = smaller(bar.end, c.end) - larger(bar.start, c.start);
+    let ticks = smaller(bar.end, c.end) - basics::larger(bar.start, c.start);
     let bits = 96 + flag(c.unpitched) * 128;
     let chord = c.keys;
     let to = push_span(write, values, ticks, bits, chord, heads, keys, from);

@@ -18,7 +18,8 @@ use Rattle.laws.specs.Lines.{Sound, KeysNoted, EndsNoted}
 use Rattle.laws.specs.Sort.{Rises, FallsFrom}
 use Rattle.laws.proofs.Order.{by-bool, dvd-max}
 use Rattle.laws.proofs.Lists.{All-imp, All-all, All-self, All-map, All-both, Some-imp}
-use Rattle.laws.proofs.Folds.{All-reverse, All-change, Some-change, Some-changed, Some-reverse, falls-up, reverse-rises, foldl-keeps, foldl-rises, foldl-brings}
+use Rattle.laws.proofs.Folds.{All-reverse, All-change, Some-change, Some-changed, Some-reverse}
+use Rattle.laws.proofs.Folds.{falls-up, reverse-rises, foldl-keeps, foldl-rises, foldl-brings}
 use Rattle.laws.proofs.Sort.{All-sort, Some-sort, rises-sort, rises-by}
 use Rattle.laws.proofs.KeyBits.{key-left, key-right, key-cases, key-own, key-only, keyed-or}
 
@@ -135,7 +136,8 @@ change-falls n a (c ∷ cs) h = elim (by-bool (joins n c)) [ inl t ↦ rw t h | 
 -- notes that come in order of start leave the chords in order, the most recent first
 pub join-falls : (s : ℕ) (cs : List Chord) (n : RawNote) → s ≤ n .start → FallsFrom chordStart s cs → FallsFrom chordStart (n .start) (joinOrOpen cs n)
 join-falls s cs n l h =
-    join-by (FallsFrom chordStart (n .start)) cs n (λ t. falls-up chordStart s _ (changeFirst (joins n) (joined n) cs) l (change-falls n s cs h)) (le-refl (n .start), falls-up chordStart s _ cs l h)
+    join-by (FallsFrom chordStart (n .start)) cs n (λ t. falls-up chordStart s _ (changeFirst (joins n) (joined n) cs) l (change-falls n s cs h))
+    (le-refl (n .start), falls-up chordStart s _ cs l h)
 
 join-keeps : (a k : ℕ) (cs : List Chord) (n : RawNote) → Some (Has a k) cs → Some (Has a k) (joinOrOpen cs n)
 join-keeps a k cs n s =

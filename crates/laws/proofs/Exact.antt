@@ -68,7 +68,8 @@ twice x e c a p =
     ap (λ (n : ℕ). n * (c * 2)) (mul-one x) ∙ sym (mul-assoc x c 2) ∙ ap (λ (n : ℕ). n * 2) p ∙ mul-assoc a e 2 ∙ ap (λ (n : ℕ). a * n) (mul-comm e 2)
 
 -- half of one: `2.0` is `fin false 1 (pos 1)`
-pub half : (k : ℕ) (x : Float) (a : ℕ) → k < 1074 → HasValue x false a (2 ^ k) → a < 2 ^ 53 → HasValue (div binary64 x (fin false 1 (pos 1))) false a (2 ^ (k + 1))
+pub half : (k : ℕ) (x : Float) (a : ℕ) → k < 1074 → HasValue x false a (2 ^ k) → a < 2 ^ 53
+    → HasValue (div binary64 x (fin false 1 (pos 1))) false a (2 ^ (k + 1))
 unfolding div
 half k nan a hk v h = absurd v
 half k (inf t) a hk v h = absurd v

@@ -8,7 +8,8 @@ use mathlib.Core.Path.{_≡_, refl}
 use native.Mathlib.Omega.{arith}
 use Rattle.rules.specs.Lists.{All, keep, lastOr, sortBy}
 use Rattle.rules.specs.Piece.{Event, byteA, byteB, isOn, isOff}
-use Rattle.rules.specs.RawNotes.{NoteEvent, noteEvent, noteEvents, rawNote, Pairing, sameKey, withoutOldest, takeOff, takeOn, pairOne, noPairs, pairing, byChannel, byStart, rawNotesOf, rawNotes, lastTick}
+use Rattle.rules.specs.RawNotes.{NoteEvent, noteEvent, noteEvents, rawNote, Pairing, sameKey, withoutOldest, takeOff, takeOn}
+use Rattle.rules.specs.RawNotes.{pairOne, noPairs, pairing, byChannel, byStart, rawNotesOf, rawNotes, lastTick}
 use Rattle.laws.specs.NoteWords.{InRange}
 use Rattle.laws.proofs.Folds.{foldl-keeps}
 use Rattle.laws.proofs.Lists.{All-append, All-keep, All-map, first-kept}
@@ -39,7 +40,8 @@ module _ (limit : ℕ) where
   note-in : (s : NoteEvent) (t : ℕ) → StartIn s → t < limit → InRange limit (rawNote s t)
   note-in s t h l = record { start = h .tick; end = omega (arith, h .tick, l); key = h .key; channel = h .channel }
 
-  off-in : (n : NoteEvent) (x : Pairing) (o : Option NoteEvent) → head? (keep (sameKey n) (x .pending)) ≡ o → StartIn n → PairingIn x → PairingIn (takeOff n x o)
+  off-in : (n : NoteEvent) (x : Pairing) (o : Option NoteEvent) → head? (keep (sameKey n) (x .pending)) ≡ o → StartIn n → PairingIn x
+      → PairingIn (takeOff n x o)
   off-in n x none e h k = record { pending = k .pending; closed = k .closed }
   off-in n x (some s) e h k =
       record {
@@ -68,7 +70,9 @@ module _ (limit : ℕ) where
       (keep (λ (e : Event). isOn (e .word) || isOff (e .word)) es) (All-keep EventIn _ es h) in
       let paired : PairingIn (pairing (noteEvents es)) =
       foldl-keeps pairOne PairingIn StartIn one-in (noteEvents es) noPairs starts (record { pending = tt; closed = tt }) in
-      All-sort byStart (InRange limit) (pairing (noteEvents es) .closed ++ map (λ s. rawNote s (lastTick es)) (sortBy byChannel (pairing (noteEvents es) .pending)))
+      All-sort byStart (InRange limit)
+      (pairing (noteEvents es) .closed ++ map (λ s. rawNote s (lastTick es)) (sortBy byChannel (pairing (noteEvents es) .pending)))
       (All-append _ (pairing (noteEvents es) .closed) _ (paired .closed)
-      (All-map (InRange limit) (λ s. rawNote s (lastTick es)) (λ s k. note-in s (lastTick es) k (last-in 0 es l h)) (sortBy byChannel (pairing (noteEvents es) .pending))
+      (All-map (InRange limit) (λ s. rawNote s (lastTick es)) (λ s k. note-in s (lastTick es) k (last-in 0 es l h))
+      (sortBy byChannel (pairing (noteEvents es) .pending))
       (All-sort byChannel StartIn (pairing (noteEvents es) .pending) (paired .pending))))

@@ -7,7 +7,8 @@ use mathlib.Core.Path.{_≡_, sym, ap, _∙_}
 use native.Mathlib.Omega.{arith}
 use borrow.Rule.Slice.PartMut.{putMid}
 use lib.ListN.{length, getD, set, take, drop, length-drop, take-append-drop}
-use lib.Seq.{getD-take, getD-drop, take-set-lt, take-set-le, drop-set-add, drop-set-lt, drop-drop, drop-length, take-append-le, drop-append-le, take-at, take-all, length-take-le, drop-append-add}
+use lib.Seq.{getD-take, getD-drop, take-set-lt, take-set-le, drop-set-add, drop-set-lt, drop-drop, drop-length}
+use lib.Seq.{take-append-le, drop-append-le, take-at, take-all, length-take-le, drop-append-add}
 use Rattle.laws.specs.Parts.{part}
 
 module _ {A : Type 0} where

@@ -5,7 +5,8 @@ use mathlib.Core.List.{List, [], _∷_, _++_, map, map-append, head?}
 use mathlib.Core.Logic.{inl, inr}
 use mathlib.Core.Option.{Option, none, some}
 use mathlib.Core.Path.{_≡_, refl, sym, ap, _∙_}
-use native.Mathlib.Nat.{le-refl, zero-div, zero-mod, div-eq-of-lt, mod-eq-of-lt, div-eq-sub-div, mod-eq-sub-mod, div-add-mod', mod-lt, eq-zero-or-pos, dvd-refl, dvd-trans, dvd-sub, dvd-add, dvd-mod-iff, le-of-dvd, mod-eq-zero-of-dvd}
+use native.Mathlib.Nat.{le-refl, zero-div, zero-mod, div-eq-of-lt, mod-eq-of-lt, div-eq-sub-div, mod-eq-sub-mod, div-add-mod', mod-lt}
+use native.Mathlib.Nat.{eq-zero-or-pos, dvd-refl, dvd-trans, dvd-sub, dvd-add, dvd-mod-iff, le-of-dvd, mod-eq-zero-of-dvd}
 use native.Mathlib.Numerals.{add-one}
 use native.Mathlib.Omega.{arith}
 use lib.Dec.{leb}
@@ -16,7 +17,8 @@ use Rattle.rules.specs.Values.{Value, values, ticksOf, longest, Split, splitIn,
 use Rattle.laws.specs.Ladder.{ladder, split, left, taken, halved, StaffPiece}
 use Rattle.laws.proofs.Order.{by-bool}
 use Rattle.laws.proofs.Lists.{All-imp, All-keep, All-flatMap, first-kept, sum-append}
-use Rattle.laws.proofs.Values.{by-even, ladder-even, ladder-odd, values-literal, values-long, halved-even, halved-zero, halved-odd, halved-divides, half-divides, smallest-last}
+use Rattle.laws.proofs.Values.{by-even, ladder-even, ladder-odd, values-literal, values-long, halved-even}
+use Rattle.laws.proofs.Values.{halved-zero, halved-odd, halved-divides, half-divides, smallest-last}
 
 -- Loop equations: a value that fits is taken, one that does not is passed over.
 module _ (v : Value) (vs : List Value) (t : ℕ) where

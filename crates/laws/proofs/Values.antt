@@ -4,7 +4,8 @@ use mathlib.Core.Bool.{true, false}
 use mathlib.Core.List.{List, [], _∷_, flatMap}
 use mathlib.Core.Logic.{_⊎_, inl, inr}
 use mathlib.Core.Path.{_≡_, refl, sym, ap, _∙_, subst}
-use native.Mathlib.Nat.{add-zero, pow-succ', div-one, div-div-eq-div-mul, div-eq-of-eq-mul-left, mul-mod-left, mul-mod-right, dvd-refl, dvd-trans, dvd-mul-right, dvd-of-mod-eq-zero, mod-eq-zero-of-dvd, dvd-of-mul-dvd-mul-right, pos-of-dvd-of-pos}
+use native.Mathlib.Nat.{add-zero, pow-succ', div-one, div-div-eq-div-mul, div-eq-of-eq-mul-left, mul-mod-left, mul-mod-right, dvd-refl}
+use native.Mathlib.Nat.{dvd-trans, dvd-mul-right, dvd-of-mod-eq-zero, mod-eq-zero-of-dvd, dvd-of-mul-dvd-mul-right, pos-of-dvd-of-pos}
 use native.Mathlib.Numerals.{add-one}
 use native.Mathlib.Omega.{arith}
 use lib.Pow.{pow-pos, pow-add}

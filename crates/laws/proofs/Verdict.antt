@@ -11,11 +11,14 @@ use Rattle.rules.specs.Bars.{Bar, lastBarEnd}
 use Rattle.rules.specs.Grid.{grid, snapped}
 use Rattle.rules.specs.Values.{isWhole, smallest}
 use Rattle.rules.specs.Items.{Item, Staff, StaffArrays, headLimit, readStaff}
-use Rattle.rules.specs.ProofReader.{StaffValue, Values, Fill, EmptyOrFill, Full, Clean, AllClean, Meets, FreeAt, Tied, Ties, NoteFound, KeysMeant, EndsWithNote, EndsMeant, Right, Shaped, Timed, Tie, Played, itemTicks, voiceItems, voiceTimed, voiceNumbers, played, tieAfter}
-use Rattle.rules.specs.ProofReaderTests.{staffValue?, values?, fill?, emptyOrFill?, full?, clean?, allClean?, meets?, freeAt?, tied?, ties?, noteFound?, keysMeant?, endsWithNote?, endsMeant?, right?, shaped?, verdictOn, even?}
+use Rattle.rules.specs.ProofReader.{StaffValue, Values, Fill, EmptyOrFill, Full, Clean, AllClean, Meets, FreeAt, Tied, Ties, NoteFound, KeysMeant, EndsWithNote}
+use Rattle.rules.specs.ProofReader.{EndsMeant, Right, Shaped, Timed, Tie, Played, itemTicks, voiceItems, voiceTimed, voiceNumbers, played, tieAfter}
+use Rattle.rules.specs.ProofReaderTests.{staffValue?, values?, fill?, emptyOrFill?, full?, clean?, allClean?, meets?, freeAt?, tied?}
+use Rattle.rules.specs.ProofReaderTests.{ties?, noteFound?, keysMeant?, endsWithNote?, endsMeant?, right?, shaped?, verdictOn, even?}
 use Rattle.laws.specs.Says.{Says}
 use Rattle.laws.specs.Claims.{YesExactly}
-use Rattle.laws.proofs.Reflection.{says-flag, says-true, says-eq, says-lt, says-le, says-beq, says-not, says-and, says-or, says-imp, says-cond, says-as, says-and3, says-or3, says-and4, says-every, says-any, says-below}
+use Rattle.laws.proofs.Reflection.{says-flag, says-true, says-eq, says-lt, says-le, says-beq, says-not, says-and, says-or, says-imp}
+use Rattle.laws.proofs.Reflection.{says-cond, says-as, says-and3, says-or3, says-and4, says-every, says-any, says-below}
 
 -- ---- point 1: values
 

@@ -12,7 +12,8 @@ use Rattle.rules.specs.Lists.{any, changeFirst, All, Some, here, later}
 use Rattle.rules.specs.RawNotes.{RawNote}
 use Rattle.rules.specs.Grid.{snapped}
 use Rattle.rules.specs.ProofReader.{HasKey}
-use Rattle.rules.specs.Voices.{Chord, Voice, chords, isFree, startsWith, voiceEnd, endsEarliest, Choice, free, together, cut, choose, giveKeys, cutTo, placed, place, noVoices, voices}
+use Rattle.rules.specs.Voices.{Chord, Voice, chords, isFree, startsWith, voiceEnd, endsEarliest, Choice, free}
+use Rattle.rules.specs.Voices.{together, cut, choose, giveKeys, cutTo, placed, place, noVoices, voices}
 use Rattle.laws.specs.Lines.{Sound, Line, EndsNoted, Closed}
 use Rattle.laws.proofs.Order.{by-bool}
 use Rattle.laws.proofs.Lists.{All-imp, All-all, All-map, All-both, Some-imp, Some-map, any-none, least}
@@ -184,7 +185,8 @@ voices-by : (u g : ℕ) (ns : List RawNote) → 0 < g → u ∣ g → (P : List 
 unfolding voices
 voices-by u g ns p d P f =
     let (s, h) =
-    foldl-rises place (λ s. All (SoFar u _ s)) (Whole u _) chordStart (place-so-far u _) (chords g ns) 0 noVoices (All-all (λ c. zero-le) (chords g ns)) (chords-rise g ns)
+    foldl-rises place (λ s. All (SoFar u _ s)) (Whole u _) chordStart (place-so-far u _) (chords g ns) 0 noVoices (All-all (λ c. zero-le) (chords g ns))
+    (chords-rise g ns)
     (chords-whole u g ns p d) (tt, (tt, (tt, (tt, tt)))) in
     All-map P reverse (f s) (spread (chords g ns)) h
 

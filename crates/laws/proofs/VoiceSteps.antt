@@ -133,7 +133,8 @@ chords-cut g ns p xs c ys e t =
     let snaps : List RawNote = map (snapped g) ns in
     let (s, l, w, h) =
     foldl-before place (λ s. All (SoFar g snaps s)) (Whole g snaps) chordStart (place-so-far g snaps) xs c ys 0 noVoices
-    (All-all (λ d. zero-le) (xs ++ (c ∷ ys))) (subst (Rises chordStart) e (chords-rise g ns)) (subst (All (Whole g snaps)) e (chords-whole g g ns p (dvd-refl g)))
+    (All-all (λ d. zero-le) (xs ++ (c ∷ ys))) (subst (Rises chordStart) e (chords-rise g ns))
+    (subst (All (Whole g snaps)) e (chords-whole g g ns p (dvd-refl g)))
     (tt, (tt, (tt, (tt, tt)))) in
     cut-keeps-length g c (spread xs) t (w .good .sound .starts)
     (All-imp (last-on g snaps s (c .start) l) (spread xs) h)

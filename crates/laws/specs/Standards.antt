@@ -3,8 +3,10 @@ use Prim.Native.Nat.{ℕ}
 use mathlib.Core.Bool.{true}
 use mathlib.Core.List.{[], _∷_}
 use mathlib.Core.Path.{_≡_}
-use Rattle.rules.specs.Piece.{kindOf, byteA, byteB, byteC, isKind, isOn, isOff, channelOf, tempoValue, upperFigure, lowerFigure, signedFifths, isMinor, bendValue}
-use Rattle.rules.specs.Standard.{Meaning, noteOff, noteOn, keyPressure, controlChange, programChange, channelPressure, pitchBend, setTempo, timeSignature, keySignature, channelVoice, metaEvent}
+use Rattle.rules.specs.Piece.{kindOf, byteA, byteB, byteC, isKind, isOn, isOff, channelOf, tempoValue}
+use Rattle.rules.specs.Piece.{upperFigure, lowerFigure, signedFifths, isMinor, bendValue}
+use Rattle.rules.specs.Standard.{Meaning, noteOff, noteOn, keyPressure, controlChange, programChange, channelPressure}
+use Rattle.rules.specs.Standard.{pitchBend, setTempo, timeSignature, keySignature, channelVoice, metaEvent}
 
 -- a word of kind 8 to 14 as a channel message: the kind is the status byte's high nibble
 abbrev pub asMessage : ℕ → Meaning

@@ -11,14 +11,14 @@ use Rattle.rules.specs.Diagnostics.{anyMeterLength, offMeasureFound}
 use Rattle.laws.specs.Admitted.{Admitted}
 use Rattle.track_events.specs.Track.{eventsOf, stretch}
 use Rattle.track_events.proofs.Tracks.{length-stretch}
-use Rattle.piece.specs.Spans.{IsSpan}
-use Rattle.piece.specs.declared.Span.{Span}
-use Rattle.piece.proofs.Cuts.{span-track}
-use Rattle.loss_diagnostics.specs.declared.Group.the-variants.{OffMeasure}
+use Rattle.tracks.specs.Spans.{IsSpan}
+use Rattle.tracks.specs.declared.Span.{Span}
+use Rattle.tracks.proofs.Cuts.{span-track}
+use Rattle.event_diagnostics.specs.declared.Group.the-variants.{OffMeasure}
 use Rattle.findings.specs.Found.{FoundIn}
-use Rattle.loss_diagnostics.specs.Groups.{meterIn, meterLength, foundOf, Searchable}
+use Rattle.event_diagnostics.specs.Groups.{meterIn, meterLength, foundOf, Searchable}
 use Rattle.findings.proofs.Putting.{found-as}
-use Rattle.loss_diagnostics.proofs.Searching.{any-meter}
+use Rattle.event_diagnostics.proofs.Searching.{any-meter}
 
 module _ (x : Piece) (known : Admitted x) where
   module _ {r : Span} (span : IsSpan (x .deltas) (x .words) (firstTrack x) r) where
@@ -41,7 +41,10 @@ module _ (x : Piece) (known : Admitted x) where
         → FoundIn (offMeasureFound x) (length (x .deltas)) at p₀ d₀ next p₁ d₁
     off-found {p} {l} e f q =
         record {
-          found = found-as (ap (λ (m : ℕ). foundOf (OffMeasure m) 0 (eventsOf ds ws)) long ∙ ap (foundOf (OffMeasure (anyMeterLength x)) 0) (span .events)) (q .found);
+          found =
+              found-as
+              (ap (λ (m : ℕ). foundOf (OffMeasure m) 0 (eventsOf ds ws)) long ∙ ap (foundOf (OffMeasure (anyMeterLength x)) 0) (span .events))
+              (q .found);
           few = omega (arith, q .few, length-stretch (r .from) (r .to) (x .deltas) (span .order) (span .deltas), span .deltas);
         }
       where

@@ -1,4 +1,3 @@
 pub mod FirstTrack
 pub mod Groups
-pub mod Searching
 pub mod Walking

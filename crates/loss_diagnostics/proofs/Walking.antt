@@ -6,16 +6,17 @@ use mathlib.Core.Path.{_≡_, refl, sym, ap, _∙_}
 use native.Mathlib.Omega.{arith}
 use lib.ListN.{length, getD}
 use Rattle.rules.specs.Lists.{All}
-use Rattle.rules.specs.Piece.{Event, piece, tracks, sizesAgree}
+use Rattle.rules.specs.Piece.{Event, piece, tracks, sizesAgree, largestSize}
 use Rattle.rules.specs.Diagnostics.{Diagnostic, inTracks, unmatchedFound}
 use Rattle.laws.specs.Admitted.{Admitted}
 use Rattle.laws.proofs.Refusals.{sizes-agree}
 use Rattle.track_events.specs.Track.{Track, eventsOf, stretch}
 use Rattle.track_events.proofs.Tracks.{track-part, length-stretch}
-use Rattle.piece.proofs.Cuts.{Cut, later, cut-start, cut-fits, cut-next, later-cons, later-none, whole-track}
-use Rattle.piece.proofs.Ranges.{ons, most-each}
+use Rattle.tracks.proofs.Cuts.{Cut, later, cut-start, cut-fits, cut-next, later-cons, later-none, whole-track}
+use Rattle.tracks.proofs.Ranges.{ons, most-each}
 use Rattle.pairing.specs.Queues.{Grid, Empty}
 use Rattle.findings.specs.Found.{Found, FoundIn}
+use Rattle.event_diagnostics.specs.Groups.{Searchable}
 use Rattle.unmatched.specs.Stages.{Fresh, Emptied}
 use Rattle.loss_diagnostics.specs.Pieces.{CanFind}
 use Rattle.findings.proofs.Putting.{found-none, found-append, found-as}
@@ -34,12 +35,6 @@ pub walking-start : {f : ℕ → List Event → List Diagnostic} {s ds ws : List
 walking-start {s = s} {ds = ds} {ws = ws} {at = at} {p = p} {d = d} h =
     record { cut = cut-start s ds ws h; behind = omega arith; few = omega arith; passed = []; found = found-none at p d; all = refl }
 
--- n events from `from` on are within the arrays
-pub record Ahead (from n i : ℕ) (ds ws : List ℕ) : Type 0 where
-  pub deltas : from + n ≤ length ds
-  pub words : from + n ≤ length ws
-  pub number : 2 ≤ i
-
 module _ {f : ℕ → List Event → List Diagnostic} {s ds ws : List ℕ} {at : ℕ} {p₀ d₀ : List ℕ} {i from next : ℕ} {p d : List ℕ}
     (known : Admitted (piece s ds ws)) (v : Walking f s ds ws at p₀ d₀ i from next p d) where
   pub walking-end : length s ≤ i → FoundIn (inTracks f 0 (tracks (piece s ds ws))) (length ds) at p₀ d₀ next p d
@@ -57,21 +52,25 @@ module _ {f : ℕ → List Event → List Diagnostic} {s ds ws : List ℕ} {at :
     abbrev pub next-track : List Event
     next-track = eventsOf (stretch from to ds) (stretch from to ws)
 
-    pub walking-fits : to ≤ length ds
+    walking-fits : to ≤ length ds
     walking-fits = cut-fits (v .cut) more
 
-    pub walking-ahead : {n : ℕ} → n ≡ getD s i 0 → Ahead from n i ds ws
-    walking-ahead e = record { deltas = omega (arith, walking-fits); words = omega (arith, walking-fits, v .cut .same); number = v .behind }
-
-    pub walking-track : Track (stretch from to ds) (stretch from to ws)
+    walking-track : Track (stretch from to ds) (stretch from to ws)
     walking-track = track-part (whole-track (piece s ds ws) known) from to (omega arith) walking-fits
 
-    pub walking-long : length (stretch from to ds) ≡ getD s i 0
+    walking-long : length (stretch from to ds) ≡ getD s i 0
     walking-long = length-stretch from to ds (omega arith) walking-fits ∙ omega arith
 
     -- tracks are at most 65,535
-    pub walking-number : i - 2 ≤ 65535
+    walking-number : i - 2 ≤ largestSize
     walking-number = let a = sizes-agree (piece s ds ws) (known .sizes) in omega (arith, a .sizes, a .tracks)
+
+    -- the next diagnostic has its place below 2^32
+    walking-room : at + length ds < 2 ^ 32 → next + length (stretch from to ds) < 2 ^ 32
+    walking-room h = omega (arith, v .few, walking-long, walking-fits)
+
+    pub walking-searchable : at + length ds < 2 ^ 32 → Searchable (stretch from to ds) (stretch from to ws) (i - 2) next
+    walking-searchable h = record { events = walking-track; numbered = walking-number; room = walking-room h }
 
     pub walking-next : {r : ℕ} {p₁ d₁ : List ℕ} → FoundIn (f (i - 2) next-track) (length (stretch from to ds)) next p d r p₁ d₁
         → Walking f s ds ws at p₀ d₀ (i + 1) to r p₁ d₁
@@ -107,7 +106,8 @@ tracking-start {s} {ds} {ws} {n = n} can e g =
     record { walk = walking-start (can .admitted .sizes); heads = e; tails = g; kept = refl; most = most-each (piece s ds ws) n (can .most) }
 
 module _ {s ds ws : List ℕ} {at n : ℕ} {w₀ p₀ d₀ : List ℕ} {h t : List (List ℕ)} {i from next : ℕ} {w p d : List ℕ}
-    (can : CanFind (piece s ds ws) w₀ n) (small : at + length ds < 2 ^ 32) (v : Tracking s ds ws at n w₀ p₀ d₀ h t i from next w p d) (more : i < length s) where
+    (can : CanFind (piece s ds ws) w₀ n) (small : at + length ds < 2 ^ 32) (v : Tracking s ds ws at n w₀ p₀ d₀ h t i from next w p d)
+    (more : i < length s) where
   each : All (λ es. ons es ≤ n) (next-track (can .admitted) (v .walk) more ∷ later s ds ws (i + 1) (from + getD s i 0))
   each = rw (later-cons (v .walk .cut) more) at (v .most)
 
@@ -120,7 +120,7 @@ module _ {s ds ws : List ℕ} {at n : ℕ} {w₀ p₀ d₀ : List ℕ} {h t : Li
         area = omega (arith, can .area, v .kept);
         ons = each .0;
         numbered = walking-number (can .admitted) (v .walk) more;
-        room = omega (arith, small, v .walk .few, walking-long (can .admitted) (v .walk) more, walking-fits (can .admitted) (v .walk) more);
+        room = walking-room (can .admitted) (v .walk) more small;
       }
 
   pub tracking-next : {h′ t′ : List (List ℕ)} {r : ℕ} {w′ p₁ d₁ : List ℕ} → length w′ ≡ length w → Emptied h′ t′

@@ -1,64 +1,88 @@
-// A part at the door: numbers 1 to 8 before any output is looked at, then what engraver and proof-reader are handed.
-ghost use mathlib.Core.Path.{_≡_};
+// What opens a piece or a part: numbers 1 to 5, then 6, then 7. Room is no part of it.
 ghost use Rattle.rules.specs.Piece.{piece};
-ghost use Rattle.opening.specs.Opening.{PartOpened};
+ghost use Rattle.rules.specs.Refusals.{pieceRefusals, noteRefusals};
+ghost use Rattle.opening.specs.Opening.{PieceOpened, PartOpened};
 
-// A part: the call's number, 0 where it is let in. Then the most note-ons in one track, the ticks per quarter, the end of the piece,
-// and where the first track and the part's own track stand.
+// A piece: its number, 0 where it is admitted. Then the count of its parts and N, the most note-ons in one track.
 pub struct Opened {
     pub number: u32,
+    pub parts: usize,
     pub most: usize,
-    pub p: u64,
-    pub end: u64,
-    pub first_from: usize,
-    pub first_to: usize,
+}
+
+// A part: its number, 0 where it is admitted. Then N, and where the part's own track stands.
+pub struct OpenedPart {
+    pub number: u32,
+    pub most: usize,
     pub from: usize,
     pub to: usize,
 }
 
-// A part that is turned back.
-fn turned_back(number: u32) -> Opened
-    ensures { λ r. ⌜ r .number ≡ number ⌝ }
+// The first of 1 to 5 that applies, else 0 and the two counts.
+pub fn open_piece(sizes: &[u32], deltas: &[u32], words: &[u32]) -> Opened
+    ensures { λ r. ⌜ PieceOpened (piece (now (sizes .entry)) (now (deltas .entry)) (now (words .entry)))
+        (pieceRefusals (piece (now (sizes .entry)) (now (deltas .entry)) (now (words .entry)))) r ⌝ }
 {
+    let number = admission::admission(sizes, deltas, words);
+    if number != 0 {
+        return Opened {
+            number,
+            parts: 0,
+            most: 0,
+        };
+    }
+    let counts = tracks::survey(sizes, deltas, words);
     Opened {
-        number,
-        most: 0,
-        p: 0,
-        end: 0,
-        first_from: 0,
-        first_to: 0,
-        from: 0,
-        to: 0,
+        number: 0,
+        parts: counts.parts,
+        most: counts.most,
     }
 }
 
-// The first of 1 to 8 that applies to a part and a work area of this room, else 0 and the part.
-pub fn open_part(sizes: &[u32], deltas: &[u32], words: &[u32], part: u32, room: usize) -> Opened
-    ensures { λ r. ⌜ PartOpened (piece (now (sizes .entry)) (now (deltas .entry)) (now (words .entry))) part room r ⌝ }
+// The first of 1 to 6 that applies, else 0 and the two counts.
+pub fn open_notes(sizes: &[u32], deltas: &[u32], words: &[u32]) -> Opened
+    ensures { λ r. ⌜ PieceOpened (piece (now (sizes .entry)) (now (deltas .entry)) (now (words .entry)))
+        (noteRefusals (piece (now (sizes .entry)) (now (deltas .entry)) (now (words .entry)))) r ⌝ }
 {
-    let number = piece::admission(sizes, deltas, words);
-    if number != 0 {
-        return turned_back(number);
+    let opened = open_piece(sizes, deltas, words);
+    if opened.number != 0 {
+        return opened;
     }
-    let counts = piece::survey(sizes, deltas, words);
-    if counts.parts == 0 {
-        return turned_back(6);
+    if opened.parts == 0 {
+        return Opened {
+            number: 6,
+            parts: 0,
+            most: 0,
+        };
     }
-    if counts.parts <= part as usize {
-        return turned_back(7);
+    opened
+}
+
+// The first of 1 to 7 that applies to a part, numbered from 0, else 0, N and the part's track.
+pub fn open_part(sizes: &[u32], deltas: &[u32], words: &[u32], part: u32) -> OpenedPart
+    ensures { λ r. ⌜ PartOpened (piece (now (sizes .entry)) (now (deltas .entry)) (now (words .entry))) part r ⌝ }
+{
+    let opened = open_notes(sizes, deltas, words);
+    if opened.number != 0 {
+        return OpenedPart {
+            number: opened.number,
+            most: 0,
+            from: 0,
+            to: 0,
+        };
     }
-    if room < 16 * counts.most + 4096 {
-        return turned_back(8);
+    if opened.parts <= part as usize {
+        return OpenedPart {
+            number: 7,
+            most: 0,
+            from: 0,
+            to: 0,
+        };
     }
-    let track = piece::part_track(sizes, deltas, words, part as usize);
-    let first = piece::first_track(sizes);
-    Opened {
+    let track = tracks::part_track(sizes, deltas, words, part as usize);
+    OpenedPart {
         number: 0,
-        most: counts.most,
-        p: piece::ticks_per_quarter(sizes),
-        end: ends::end_of_piece(sizes, deltas, words),
-        first_from: first.from,
-        first_to: first.to,
+        most: opened.most,
         from: track.from,
         to: track.to,
     }

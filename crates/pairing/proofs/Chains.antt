@@ -107,7 +107,8 @@ queues-kept {w = w} {w′ = w′} {n = n} {m = m} {ps = ps} e p =
       ticks = λ i l. e .ticks i l ∙ p .ticks i l;
       numbers = λ i l. e .numbers i l ∙ p .numbers i l;
       queue = λ c k lc lk.
-          run-kept (p .starts) (p .starts) w w′ n (λ y. at c k y ≡ true) (omega arith) (λ i l. refl) (λ i l _. e .links i (omega (arith, p .count))) (keep-passes (at c k) ps) (p .queue c k lc lk);
+          run-kept (p .starts) (p .starts) w w′ n (λ y. at c k y ≡ true) (omega arith) (λ i l. refl) (λ i l _. e .links i (omega (arith, p .count)))
+          (keep-passes (at c k) ps) (p .queue c k lc lk);
       inside = p .inside;
       heads = p .heads;
       tails = p .tails;
@@ -133,8 +134,13 @@ wrote {w} {n} {m} t e l a =
     record {
       node =
           record {
-            link = other w₂ (6 * n + m) e (4 * n + m) (λ z. absurd (omega arith)) ∙ other w₁ (5 * n + m) t (4 * n + m) (λ z. absurd (omega arith)) ∙ getD-set-same w (4 * n + m) 0 0 (omega arith);
-            tick = other w₂ (6 * n + m) e (5 * n + m) (λ z. absurd (omega arith)) ∙ getD-set-same w₁ (5 * n + m) t 0 (omega (arith, length-set w (4 * n + m) 0));
+            link =
+                other w₂ (6 * n + m) e (4 * n + m) (λ z. absurd (omega arith))
+                ∙ other w₁ (5 * n + m) t (4 * n + m) (λ z. absurd (omega arith))
+                ∙ getD-set-same w (4 * n + m) 0 0 (omega arith);
+            tick =
+                other w₂ (6 * n + m) e (5 * n + m) (λ z. absurd (omega arith))
+                ∙ getD-set-same w₁ (5 * n + m) t 0 (omega (arith, length-set w (4 * n + m) 0));
             number = getD-set-same w₂ (6 * n + m) e 0 (simp length-set (omega arith));
           };
       same =
@@ -163,7 +169,8 @@ wrote {w} {n} {m} t e l a =
     outside j a b c = other w₂ (6 * n + m) e j c ∙ other w₁ (5 * n + m) t j b ∙ other w (4 * n + m) 0 j a
 
 -- ---- all queues: a start is put behind its queue
-module _ {h t : List (List ℕ)} {w : List ℕ} {n m : ℕ} {ps : List NoteEvent} (p : Queues h t w n m ps) {s : NoteEvent} {c k tk e : ℕ} (lc : c < 16) (lk : k < 128)
+module _ {h t : List (List ℕ)} {w : List ℕ} {n m : ℕ} {ps : List NoteEvent} (p : Queues h t w n m ps) {s : NoteEvent} {c k tk e : ℕ} (lc : c < 16)
+    (lk : k < 128)
     (room : m < n) (small : m + 1 < 2 ^ 32) (is : IsStart s c k tk e) (node : Noded w n m tk e) where
   abbrev all : List NoteEvent
   all = p .starts ++ (s ∷ [])
@@ -191,7 +198,9 @@ module _ {h t : List (List ℕ)} {w : List ℕ} {n m : ℕ} {ps : List NoteEvent
         small = small;
         area = rw kept (p .area);
         ticks = λ i l. ticks i ∙ ⊎-elim (λ b. p .ticks i b ∙ ap (λ (y : NoteEvent). y .tick) (sym (past i b))) (λ b. last-tick i (omega arith)) (by-lt i m);
-        numbers = λ i l. numbers i ∙ ⊎-elim (λ b. p .numbers i b ∙ ap (λ (y : NoteEvent). y .number) (sym (past i b))) (λ b. last-number i (omega arith)) (by-lt i m);
+        numbers =
+            λ i l. numbers i
+            ∙ ⊎-elim (λ b. p .numbers i b ∙ ap (λ (y : NoteEvent). y .number) (sym (past i b))) (λ b. last-number i (omega arith)) (by-lt i m);
         queue = λ c′ k′ lc′ lk′. ⊎-elim (λ q. here c′ k′ q) (λ q. there c′ k′ lc′ lk′ q) (by-place c c′ k k′);
         inside = All-append Inside ps (s ∷ []) (p .inside) (record { channel = omega (arith, is .channel); key = omega (arith, is .key) }, tt);
         heads = grid;
@@ -211,11 +220,16 @@ module _ {h t : List (List ℕ)} {w : List ℕ} {n m : ℕ} {ps : List NoteEvent
       there : (c′ k′ : ℕ) → c′ < 16 → k′ < 128 → ((c ≡ c′) × (k ≡ k′) → ⊥)
           → Run all w′ n (cell (put t c k (m + 1)) c′ k′) 0 (cell h′ c′ k′) (keep (at c′ k′) (ps ++ (s ∷ [])))
       there c′ k′ lc′ lk′ q =
-          rw (put-there (p .tails) c k (m + 1) lc lk c′ k′ q, cells c′ k′ q, keep-same (at c′ k′) ps s (at-not c′ k′ s (λ z. q (sym (z .0 ∙ is .channel), sym (z .1 ∙ is .key)))))
+          rw (
+            put-there (p .tails) c k (m + 1) lc lk c′ k′ q,
+            cells c′ k′ q,
+            keep-same (at c′ k′) ps s (at-not c′ k′ s (λ z. q (sym (z .0 ∙ is .channel), sym (z .1 ∙ is .key)))),
+          )
           (run-kept (p .starts) all w w′ n (λ y. at c′ k′ y ≡ true) (simp length-append (omega arith)) (λ i l. past i (omega (arith, p .count)))
           (λ i l z. links i (omega (arith, p .count)) (λ y. other c′ k′ q i z y)) (keep-passes (at c′ k′) ps) (p .queue c′ k′ lc′ lk′))
         where
-          other : (c′ k′ : ℕ) → ((c ≡ c′) × (k ≡ k′) → ⊥) → (i : ℕ) → at c′ k′ (getD (p .starts) i noStart) ≡ true → at c k (getD (p .starts) i noStart) ≡ true → ⊥
+          other : (c′ k′ : ℕ) → ((c ≡ c′) × (k ≡ k′) → ⊥) → (i : ℕ) → at c′ k′ (getD (p .starts) i noStart) ≡ true
+              → at c k (getD (p .starts) i noStart) ≡ true → ⊥
           other c′ k′ q i z y =
               let a = at-true c′ k′ (getD (p .starts) i noStart) z in
               let b = at-true c k (getD (p .starts) i noStart) y in
@@ -263,7 +277,8 @@ module _ {h t : List (List ℕ)} {w : List ℕ} {n m : ℕ} {ps : List NoteEvent
   pushed-behind f z = record { queues = behind-queues z; front = take-set-le (4 * n) w (4 * n + (last - 1)) (m + 1) (omega arith) ∙ f }
 
 -- ---- all queues: where the heads, the tails and the links of a queue that is not empty lead
-module _ {h t : List (List ℕ)} {w : List ℕ} {n m : ℕ} {ps : List NoteEvent} (p : Queues h t w n m ps) {c k : ℕ} (lc : c < 16) (lk : k < 128) (full : 0 < cell h c k) where
+module _ {h t : List (List ℕ)} {w : List ℕ} {n m : ℕ} {ps : List NoteEvent} (p : Queues h t w n m ps) {c k : ℕ} (lc : c < 16) (lk : k < 128)
+    (full : 0 < cell h c k) where
   abbrev head : ℕ
   head = cell h c k
 
@@ -329,17 +344,25 @@ module _ {h t : List (List ℕ)} {w : List ℕ} {n m : ℕ} {ps : List NoteEvent
                 };
           }
         where
-          here : (o : NoteEvent) → o .channel ≡ c → o .key ≡ k → Run (p .starts) w n (cell t c k) head (nodeLink w n (head - 1)) rest → keep (at c k) ps ≡ s ∷ rest
-              → (c′ k′ : ℕ) → (c ≡ c′) × (k ≡ k′) → Run (p .starts) w n (cell t c′ k′) 0 (cell (put h c k (nodeLink w n (head - 1))) c′ k′) (keep (at c′ k′) (withoutOldest o ps))
+          here : (o : NoteEvent) → o .channel ≡ c → o .key ≡ k → Run (p .starts) w n (cell t c k) head (nodeLink w n (head - 1)) rest
+              → keep (at c k) ps ≡ s ∷ rest
+              → (c′ k′ : ℕ) → (c ≡ c′) × (k ≡ k′)
+              → Run (p .starts) w n (cell t c′ k′) 0 (cell (put h c k (nodeLink w n (head - 1))) c′ k′) (keep (at c′ k′) (withoutOldest o ps))
           here o oc ok r e′ c′ k′ q =
               let same : at c k ≡ sameKey o = rw (← oc, ← ok) in
-              let left : keep (at c k) (withoutOldest o ps) ≡ rest = ap (λ (f : NoteEvent → Bool). keep f (withoutOldest o ps)) same ∙ without-here o ps (ap (λ (f : NoteEvent → Bool). keep f ps) (sym same) ∙ e′) in
+              let left : keep (at c k) (withoutOldest o ps) ≡ rest = ap (λ (f : NoteEvent → Bool). keep f (withoutOldest o ps)) same
+              ∙ without-here o ps (ap (λ (f : NoteEvent → Bool). keep f ps) (sym same) ∙ e′) in
               rw (← q .0, ← q .1, put-here (p .heads) c k (nodeLink w n (head - 1)) lc lk, left) (run-low r)
 
           there : (o : NoteEvent) → o .channel ≡ c → o .key ≡ k → (c′ k′ : ℕ) → c′ < 16 → k′ < 128 → ((c ≡ c′) × (k ≡ k′) → ⊥)
               → Run (p .starts) w n (cell t c′ k′) 0 (cell (put h c k (nodeLink w n (head - 1))) c′ k′) (keep (at c′ k′) (withoutOldest o ps))
           there o oc ok c′ k′ lc′ lk′ q =
-              rw (put-there (p .heads) c k (nodeLink w n (head - 1)) lc lk c′ k′ q, without-there o (at c′ k′) ps (λ y z. at-not c′ k′ y (λ b. let a = at-true (o .channel) (o .key) y z in q (sym oc ∙ a .0 ∙ sym (b .0), sym ok ∙ a .1 ∙ sym (b .1)))))
+              rw (
+                put-there (p .heads) c k (nodeLink w n (head - 1)) lc lk c′ k′ q,
+                without-there o (at c′ k′) ps
+                    (λ y z. at-not c′ k′ y
+                    (λ b. let a = at-true (o .channel) (o .key) y z in q (sym oc ∙ a .0 ∙ sym (b .0), sym ok ∙ a .1 ∙ sym (b .1)))),
+              )
               (p .queue c′ k′ lc′ lk′)
 
 pub queued-leads : {h : List (List ℕ)} {w : List ℕ} {n c k : ℕ} (p : Queued h w n c k) → Leads (p .queues) (p .channel) (p .key) (p .full)

@@ -3,3 +3,5 @@ pub mod Firsts
 pub mod Grids
 pub mod Outcomes
 pub mod Pending
+pub mod Taking
+pub mod Walking

@@ -1,15 +1,16 @@
 -- What one event does to the pairing, case by case: for the step's own proof, and for those who call it.
-use Prim.Native.Nat.{ℕ, _+_}
+use Prim.Native.Nat.{ℕ, _+_, _≤_}
 use mathlib.Core.Bool.{Bool, true, false, cond, _||_}
-use mathlib.Core.List.{List, [], _∷_, head?, foldl}
+use mathlib.Core.List.{List, [], _∷_, _++_, head?, foldl, append-nil}
 use mathlib.Core.Logic.{⊎-elim}
 use mathlib.Core.Option.{Option, none, some}
-use mathlib.Core.Path.{_≡_, refl, sym, ap, _∙_}
+use mathlib.Core.Path.{_≡_, refl, sym, ap, _∙_, subst⁻¹}
 use native.Mathlib.Omega.{arith}
+use lib.ListN.{length, length-append}
 use Rattle.rules.specs.Lists.{keep, flag, All}
 use Rattle.rules.specs.Piece.{Event, byteA, byteB, isOn, isOff}
 use Rattle.rules.specs.RawNotes.{NoteEvent, noteEvent, noteEvents, Pairing, sameKey, takeOff, takeOn, pairOne}
-use Rattle.laws.proofs.Lists.{keep-passes}
+use Rattle.laws.proofs.Lists.{All-append, keep-passes}
 use Rattle.laws.proofs.Order.{by-bool}
 use Rattle.pairing.specs.Queues.{Queues}
 use Rattle.pairing.specs.Steps.{IsStart, Pushed, Popped}
@@ -17,7 +18,7 @@ use Rattle.pairing.specs.Outcome.{offFinds, outcome, after, startsAfter,
 use Rattle.pairing.specs.declared.Start.{Start}
 use Rattle.pairing.specs.declared.Paired.{Paired}
 use Rattle.pairing.specs.declared.Paired.the-variants.{Other, Started, Closed, Unmatched}
-use Rattle.pairing.proofs.Pending.{at-true}
+use Rattle.pairing.proofs.Pending.{at-true, all-without, length-without}
 
 -- the first of a list has what all have
 first-has : {A : Type 0} (P : A → Type 0) (xs : List A) (x : A) → head? xs ≡ some x → All P xs → P x
@@ -54,7 +55,8 @@ module _ (x : Pairing) (e : Event) where
   outcome-on on = ap (λ (b : Bool). cond b Started (cond (isOff (e .word)) (offFinds found) Other)) on
 
   outcome-other : isOn (e .word) ≡ false → isOff (e .word) ≡ false → outcome x e ≡ Other
-  outcome-other on off = ap (λ (b : Bool). cond b Started (cond (isOff (e .word)) (offFinds found) Other)) on ∙ ap (λ (b : Bool). cond b (offFinds found) Other) off
+  outcome-other on off =
+      ap (λ (b : Bool). cond b Started (cond (isOff (e .word)) (offFinds found) Other)) on ∙ ap (λ (b : Bool). cond b (offFinds found) Other) off
 
   outcome-off : isOn (e .word) ≡ false → isOff (e .word) ≡ true → outcome x e ≡ offFinds found
   outcome-off on off =
@@ -87,7 +89,9 @@ module _ {x : Pairing} {e : Event} {n m : ℕ} {h t : List (List ℕ)} {w : List
   stepped-unmatched on off z q =
       record {
         is = sym (outcome-off x e on off ∙ ap (λ (l : List NoteEvent). offFinds (head? l)) z);
-        queues = afterwards (ap (λ (y : Pairing). y .pending) (after-off x e on off) ∙ ap (λ (l : List NoteEvent). takeOff (noteEvent e) x (head? l) .pending) z) q;
+        queues =
+            afterwards (ap (λ (y : Pairing). y .pending) (after-off x e on off) ∙ ap (λ (l : List NoteEvent). takeOff (noteEvent e) x (head? l) .pending) z)
+            q;
         front = refl;
       }
 
@@ -96,7 +100,10 @@ module _ {x : Pairing} {e : Event} {n m : ℕ} {h t : List (List ℕ)} {w : List
   stepped-closed {r} on off p =
       record {
         is = sym (outcome-off x e on off ∙ ap offFinds (p .first) ∙ rw (p .is .tick, p .is .number));
-        queues = afterwards (ap (λ (y : Pairing). y .pending) (after-off x e on off) ∙ ap (λ (o : Option NoteEvent). takeOff (noteEvent e) x o .pending) (p .first)) (p .queues (noteEvent e) refl refl);
+        queues =
+            afterwards
+            (ap (λ (y : Pairing). y .pending) (after-off x e on off) ∙ ap (λ (o : Option NoteEvent). takeOff (noteEvent e) x o .pending) (p .first))
+            (p .queues (noteEvent e) refl refl);
         front = refl;
       }
 
@@ -127,7 +134,9 @@ does x e {r} q =
     found-one : (o : Option NoteEvent) → found x e ≡ o → isOn (e .word) ≡ false → isOff (e .word) ≡ true → Does x e (offFinds o)
     found-one none f on off = after-off x e on off ∙ ap (takeOff (noteEvent e) x) f
     found-one (some s) f on off =
-        let a = at-true (byteA (e .word)) (byteB (e .word)) s (first-has (λ (y : NoteEvent). sameKey (noteEvent e) y ≡ true) (keep (sameKey (noteEvent e)) (x .pending)) s f (keep-passes (sameKey (noteEvent e)) (x .pending))) in
+        let a = at-true (byteA (e .word)) (byteB (e .word)) s
+        (first-has (λ (y : NoteEvent). sameKey (noteEvent e) y ≡ true) (keep (sameKey (noteEvent e)) (x .pending)) s f
+        (keep-passes (sameKey (noteEvent e)) (x .pending))) in
         record {
           start = s;
           first = f;
@@ -150,3 +159,68 @@ starts-flag m x e {r} q =
     found-none : (o : Option NoteEvent) → startsAfter m (offFinds o) ≡ m + 0
     found-none none = omega arith
     found-none (some s) = omega arith
+
+-- ---- what an event leaves
+-- the starts that it closes, and the offs that find nothing
+abbrev pub closes : Paired → ℕ
+closes Other = 0
+closes Started = 0
+closes (Closed t k) = 1
+closes Unmatched = 0
+
+abbrev pub missed : Event → Paired → List NoteEvent
+missed e Other = []
+missed e Started = []
+missed e (Closed t k) = []
+missed e Unmatched = noteEvent e ∷ []
+
+pub flag-small : (b : Bool) → flag b ≤ 1
+flag-small true = omega arith
+flag-small false = omega arith
+
+pub record Left (x : Pairing) (e : Event) (r : Paired) : Type 1 where
+  pub pending : length (after x e .pending) + closes r ≡ length (x .pending) + flag (isOn (e .word))
+  pub closed : closes r ≡ 0 → after x e .closed ≡ x .closed
+  pub unmatched : after x e .unmatched ≡ x .unmatched ++ missed e r
+  pub few : length (missed e r) + flag (isOn (e .word)) ≤ 1
+  pub all : (P : NoteEvent → Type 0) → P (noteEvent e) → All P (x .pending) → All P (after x e .pending)
+
+pub leaves : (x : Pairing) (e : Event) (r : Paired) → r ≡ outcome x e → Left x e r
+leaves x e r q = go r (does x e q) (starts-flag 0 x e q)
+  where
+    same : {y : Pairing} → after x e ≡ y → length (y .pending) ≡ length (after x e .pending)
+    same d = ap (λ (z : Pairing). length (z .pending)) (sym d)
+
+    go : (r : Paired) → Does x e r → startsAfter 0 r ≡ 0 + flag (isOn (e .word)) → Left x e r
+    go Other d f =
+        record {
+          pending = omega (arith, same d, f);
+          closed = λ z. ap (λ (y : Pairing). y .closed) d;
+          unmatched = ap (λ (y : Pairing). y .unmatched) d ∙ sym (append-nil (x .unmatched));
+          few = omega (arith, f);
+          all = λ P p a. subst⁻¹ (λ (y : Pairing). All P (y .pending)) d a;
+        }
+    go Started d f =
+        record {
+          pending = omega (arith, same d, length-append (x .pending) (noteEvent e ∷ []), f);
+          closed = λ z. ap (λ (y : Pairing). y .closed) d;
+          unmatched = ap (λ (y : Pairing). y .unmatched) d ∙ sym (append-nil (x .unmatched));
+          few = omega (arith, f);
+          all = λ P p a. subst⁻¹ (λ (y : Pairing). All P (y .pending)) d (All-append P (x .pending) (noteEvent e ∷ []) a (p, tt));
+        }
+    go (Closed t k) d f =
+        record {
+          pending = omega (arith, same (d .after-is), length-without (noteEvent e) (d .start) (x .pending) (d .first), f);
+          closed = λ z. absurd (omega arith);
+          unmatched = ap (λ (y : Pairing). y .unmatched) (d .after-is) ∙ sym (append-nil (x .unmatched));
+          few = omega (arith, f);
+          all = λ P p a. subst⁻¹ (λ (y : Pairing). All P (y .pending)) (d .after-is) (all-without (noteEvent e) P (x .pending) a);
+        }
+    go Unmatched d f =
+        record {
+          pending = omega (arith, same d, f);
+          closed = λ z. ap (λ (y : Pairing). y .closed) d;
+          unmatched = ap (λ (y : Pairing). y .unmatched) d;
+          few = omega (arith, f);
+          all = λ P p a. subst⁻¹ (λ (y : Pairing). All P (y .pending)) d a;
+        }

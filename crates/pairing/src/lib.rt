@@ -5,7 +5,6 @@
 // link in column 4, work[4 * n + i], its tick in column 5 and its event's number in column 6. Other columns are not touched.
 ghost use Prim.Native.Nat.{ℕ, _*_, _≤_, _<_};
 ghost use mathlib.Core.List.{List};
-ghost use mathlib.Core.Path.{_≡_};
 ghost use lib.ListN.{length};
 ghost use Rattle.rules.specs.Lists.{All};
 ghost use Rattle.rules.specs.RawNotes.{NoteEvent, Pairing, byChannel};
@@ -33,12 +32,6 @@ pub enum Paired {
     Started,
     Closed(u64, u64),
     Unmatched,
-}
-
-fn wide(x: u32) -> usize
-    ensures { λ r. ⌜ r ≡ x ⌝ }
-{
-    x as usize
 }
 
 // Writes node m, with no link.
@@ -70,7 +63,7 @@ fn push(
         → Pushed (now (heads .exit)) (now (tails .exit)) (now (work .entry)) (now (work .exit)) n m ps s) ⌝ }
 {
     write_node(work, n, m, tick, number);
-    let last = wide(tails[c][k]);
+    let last = basics::size(tails[c][k]);
     if heads[c][k] == 0 {
         heads[c][k] = (m + 1) as u32;
         tails[c][k] = (m + 1) as u32;
@@ -87,7 +80,7 @@ fn pop(heads: &mut [[u32; 128]; 16], work: &[u64], n: usize, c: usize, k: usize)
         → Queues (now (heads .entry)) t (now (work .entry)) n m ps
         → Popped (now (heads .exit)) t (now (work .entry)) n m c k ps r) ⌝ }
 {
-    let i = wide(heads[c][k]) - 1;
+    let i = basics::size(heads[c][k]) - 1;
     heads[c][k] = work[4 * n + i] as u32;
     Start {
         tick: work[5 * n + i],
@@ -113,8 +106,8 @@ pub fn pair_event(
         → Stepped x (record { number = number; tick = tick; word = w }) n m r (now (heads .exit)) (now (tails .exit)) (now (work .entry)) (now (work .exit))) ⌝ }
 {
     let x = track_events::take_apart(w);
-    let c = wide(x.a);
-    let k = wide(x.b);
+    let c = basics::size(x.a);
+    let k = basics::size(x.b);
     if track_events::is_on(w) {
         push(heads, tails, work, n, m, c, k, tick, number);
         return Paired::Started;

@@ -7,7 +7,7 @@ use lib.ListN.{length, take}
 use lib.Seq.{take-all}
 use Rattle.rules.specs.Piece.{Piece, piece}
 use Rattle.rules.specs.Refusals.{firstNumber, pieceRefusals}
-use Rattle.piece.proofs.Numbers.{disagrees, number-one}
+use Rattle.admission.proofs.Numbers.{disagrees, number-one}
 use Rattle.piece_text.specs.Held.{mostCounted, Counted, Held}
 
 module _ {n len : ℕ} (k : Counted n len) (s : ℕ) (b : s < mostCounted) where

@@ -36,8 +36,10 @@ sounds-by names key p h =
     ∙ ap pos (omega arith)
 
 pub sounds-its-key : SoundsItsKey
-sounds-its-key key true = sounds-by flatNames key (refl, (refl, (refl, (refl, (refl, (refl, (refl, (refl, (refl, (refl, (refl, (refl, tt)))))))))))) (omega arith)
-sounds-its-key key false = sounds-by sharpNames key (refl, (refl, (refl, (refl, (refl, (refl, (refl, (refl, (refl, (refl, (refl, (refl, tt)))))))))))) (omega arith)
+sounds-its-key key true =
+    sounds-by flatNames key (refl, (refl, (refl, (refl, (refl, (refl, (refl, (refl, (refl, (refl, (refl, (refl, tt)))))))))))) (omega arith)
+sounds-its-key key false =
+    sounds-by sharpNames key (refl, (refl, (refl, (refl, (refl, (refl, (refl, (refl, (refl, (refl, (refl, (refl, tt)))))))))))) (omega arith)
 
 pub undone : Undone
 unfolding unless

@@ -2,10 +2,10 @@
 //
 // Its arrays are its own, so that it holds 500,000 events, 10,000 note-ons in one track and 50,000 items in one part. Numbers 1 to 7 do not
 // depend on them: what does not fit is counted.
-use engraver::StaffAnswer;
 use heads::PartCountAnswer;
 use piece_text::Counts;
 use piece_text::Text;
+use staffs::StaffAnswer;
 ghost use Prim.Native.Nat.{_≤_};
 ghost use mathlib.Core.Path.{_≡_};
 ghost use lib.ListN.{length};
@@ -29,7 +29,7 @@ fn print_staff(
     let mut starts = [0u64; 10000];
     let mut marks = [0u64; 10000];
     bars::bars(sizes, deltas, words, &mut starts, &mut marks);
-    let p = piece::ticks_per_quarter(sizes);
+    let p = tracks::ticks_per_quarter(sizes);
     part_pages::print_part(part, p, bars, &starts, &marks, counts, heads, keys, at, out)
 }
 

@@ -1,4 +1,5 @@
-// The proof-reader's call: a piece, a part number and a staff. Refusals 1 to 9, then yes or no. What is left in the work area is not said.
+// The proof-reader's call: a piece, a part number and a staff. Refusals 1 to 9, then yes or no. The bars go by the first track and the end of
+// the piece, the notes by the part's own track, on their own grid.
 ghost use mathlib.Core.Path.{_≡_};
 ghost use lib.ListN.{length};
 ghost use Rattle.rules.specs.Refusals.{asItIs};
@@ -6,6 +7,7 @@ ghost use Rattle.rules.specs.Piece.{piece};
 ghost use Rattle.rules.specs.Calls.{proofReadCall, ProofReadCalled};
 ghost use Rattle.proofread_staff.specs.Staffs.{answerOf};
 ghost use Rattle.proofread.specs.Answers.{readAnswer};
+use basics::MOST_BARS;
 use proofread_staff::Reading;
 
 // Refused, or whether the staff is right.
@@ -25,44 +27,6 @@ fn answered(reading: Reading) -> ReadAnswer
     }
 }
 
-// Whether a part's staff is right: its counts, heads and keys, whatever stands in them.
-fn read(
-    sizes: &[u32],
-    deltas: &[u32],
-    words: &[u32],
-    part: u32,
-    counts: &[u32],
-    heads: &[u32],
-    keys: &[u64],
-    work: &mut [u64],
-) -> ReadAnswer
-    ensures { λ r. ⌜ readAnswer r ≡ proofReadCall (piece (now (sizes .entry)) (now (deltas .entry)) (now (words .entry))) part
-        (record { counts = now (counts .entry); heads = now (heads .entry); keys = now (keys .entry) }) (length (now (work .entry))) ⌝ }
-{
-    let opened = opening::open_part(sizes, deltas, words, part, work.len());
-    if opened.number != 0 {
-        return ReadAnswer::Refused(opened.number);
-    }
-    let a = opened.first_from;
-    let b = opened.first_to;
-    let from = opened.from;
-    let to = opened.to;
-    let reading = proofread_staff::read_part(
-        opened.p,
-        &deltas[a..b],
-        &words[a..b],
-        opened.end,
-        &deltas[from..to],
-        &words[from..to],
-        counts,
-        heads,
-        keys,
-        work,
-        opened.most,
-    );
-    answered(reading)
-}
-
 // Whether a part's staff is right, whatever stands in its arrays. Refusals 1 to 9.
 pub fn proof_read(
     sizes: &[u32],
@@ -79,7 +43,35 @@ pub fn proof_read(
         (record { counts = now (counts .entry); heads = now (heads .entry); keys = now (keys .entry) }) (length (now (work .entry))))
         (now (work .entry)) (readAnswer r) (now (work .exit)) ⌝ }
 {
-    let answer = read(sizes, deltas, words, part, counts, heads, keys, work);
+    let opened = opening::open_part(sizes, deltas, words, part);
+    if opened.number != 0 {
+        basics::clear(work);
+        return ReadAnswer::Refused(opened.number);
+    }
+    let n = opened.most;
+    if work.len() < basics::work_for(n) {
+        basics::clear(work);
+        return ReadAnswer::Refused(8);
+    }
+    let own_deltas = track_events::cut(deltas, opened.from, opened.to);
+    let own_words = track_events::cut(words, opened.from, opened.to);
+    let m = raw_notes::collect_raw_notes(own_deltas, own_words, work, n);
+    let source = bar_source::bar_source(sizes, deltas, words);
+    let g = proofread_staff::grid_of(work, n, m, source.p);
+    let reading = proofread_staff::read_part(
+        source.p,
+        track_events::cut(deltas, source.from, source.to),
+        track_events::cut(words, source.from, source.to),
+        source.end,
+        MOST_BARS,
+        counts,
+        heads,
+        keys,
+        work,
+        n,
+        m,
+        g,
+    );
     basics::clear(work);
-    answer
+    answered(reading)
 }

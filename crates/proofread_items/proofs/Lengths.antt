@@ -4,15 +4,16 @@ use mathlib.Core.Bool.{true, false, not, _&&_}
 use mathlib.Core.List.{List, [], _∷_}
 use mathlib.Core.Logic.{inl, inr}
 use mathlib.Core.Path.{_≡_, refl, sym}
-use native.Mathlib.Nat.{one-mul, mod-eq-of-lt, mul-le-mul, div-le-self}
+use native.Mathlib.Nat.{mul-le-mul, div-le-self}
 use native.Mathlib.Omega.{arith}
 use borrow.Author.Tests.{eq-eqb, ne-eqb, le-leb, lt-leb, lt-ltb, le-ltb}
 use lib.Dec.{eqb, leb, ltb}
 use lib.ListN.{length, getD, take, drop}
-use lib.Pow.{pow-lt, pow-pos}
+use lib.Pow.{pow-pos}
 use Rattle.rules.specs.Values.{ticksOf, isWhole}
 use Rattle.rules.specs.Items.{Item, itemOf, readItems}
 use Rattle.laws.proofs.Order.{by-eq}
+use Rattle.proofread_notes.proofs.KeyWords.{shifted}
 
 -- ---- values
 
@@ -25,14 +26,11 @@ parts-is p (suc (suc d)) h = absurd (omega arith)
 pub parts-small : (p d : ℕ) → p ≤ 65535 → d ≤ 1 → 16 * p * (2 * d + 1) ≤ 3145680
 parts-small p d h l = mul-le-mul {n₂ = 1048560} {m₂ = 3} (omega arith) (omega arith)
 
-power : (k : ℕ) → k < 64 → 1 * 2 ^ k % 2 ^ 64 ≡ 2 ^ k
-power k h = rw one-mul (mod-eq-of-lt (pow-lt {j = 64} h))
-
 pub power-some : (k : ℕ) → k < 64 → 0 < 1 * 2 ^ k % 2 ^ 64
-power-some k h = rw (power k h) (pow-pos k)
+power-some k h = rw (shifted k h) (pow-pos k)
 
 pub value-is : (p c d : ℕ) → c ≤ 8 → d ≤ 1 → eqb (16 * p * (2 * d + 1) % (1 * 2 ^ (c + d) % 2 ^ 64)) 0 ≡ (leb c 8 && leb d 1 && isWhole p c d)
-value-is p c d h l = rw (le-leb c 8 h, le-leb d 1 l, power (c + d) (omega arith), parts-is p d l)
+value-is p c d h l = rw (le-leb c 8 h, le-leb d 1 l, shifted (c + d) (omega arith), parts-is p d l)
 
 pub value-not : (p c d : ℕ) → 8 < c → false ≡ (leb c 8 && leb d 1 && isWhole p c d)
 value-not p c d h = rw (lt-leb c 8 h)
@@ -40,7 +38,7 @@ value-not p c d h = rw (lt-leb c 8 h)
 pub ticks-is : (p c d : ℕ) → p ≤ 65535 → c ≤ 8 → d ≤ 1
     → (16 * p * (2 * d + 1) / (1 * 2 ^ (c + d) % 2 ^ 64) ≡ ticksOf p c d) × (16 * p * (2 * d + 1) / (1 * 2 ^ (c + d) % 2 ^ 64) ≤ 3145680)
 ticks-is p c d small h l = (
-  rw (power (c + d) (omega arith), parts-is p d l),
+  rw (shifted (c + d) (omega arith), parts-is p d l),
   omega (arith, parts-small p d small l, div-le-self (16 * p * (2 * d + 1)) (1 * 2 ^ (c + d) % 2 ^ 64)),
 )
 

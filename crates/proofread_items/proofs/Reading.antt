@@ -45,7 +45,8 @@ module _ {g n m e p : ℕ} {all left : List items.Item} {w₀ w w′ : List ℕ}
     (now : Reading g n m e p all (asItem i ∷ left) w₀ w v₀ v) (t : Takes g n m e p i w w′ v r) where
   -- what the rules hear of the next item
   step : (cs : List Played) (c : Marks g n m w₀ cs)
-      → run p e (notesAt g n m w₀) (hearOne p e (notesAt g n m w) (heardOf v (now .hears cs c .closed)) (timedAt p v i)) (timedFrom p (v .tick + itemTicks p (asItem i)) left)
+      → run p e (notesAt g n m w₀) (hearOne p e (notesAt g n m w) (heardOf v (now .hears cs c .closed)) (timedAt p v i))
+      (timedFrom p (v .tick + itemTicks p (asItem i)) left)
       ≡ run p e (notesAt g n m w₀) (heardOf v₀ cs) (timedFrom p (v₀ .tick) all)
   unfolding timedFrom
   step cs c = rw (notes-same (now .area) g m room) (now .hears cs c .same)
@@ -64,7 +65,9 @@ module _ {g n m e p : ℕ} {all left : List items.Item} {w₀ w w′ : List ℕ}
             record {
               closed = hearOne p e (notesAt g n m w) (heardOf v (before .closed)) (timedAt p v i) .closed;
               marks = held .marks;
-              same = rw (t .tick h) (ap (λ (a : Heard). run p e (notesAt g n m w₀) a (timedFrom p (v .tick + itemTicks p (asItem i)) left)) (held .is) ∙ step cs c);
+              same =
+                  rw (t .tick h)
+                  (ap (λ (a : Heard). run p e (notesAt g n m w₀) a (timedFrom p (v .tick + itemTicks p (asItem i)) left)) (held .is) ∙ step cs c);
             };
         ticks = omega (arith, t .tick h, now .ticks);
       }
@@ -79,7 +82,8 @@ module _ {g n m e p : ℕ} {all left : List items.Item} {w₀ w w′ : List ℕ}
                   λ o cs c.
                   let before = now .hears cs c in
                   sym (ap (λ (a : Heard). a .ok) (step cs c)) ∙ run-failed p e (notesAt g n m w₀)
-                  (hearOne p e (notesAt g n m w) (heardOf v (before .closed)) (timedAt p v i)) (timedFrom p (v .tick + itemTicks p (asItem i)) left) (t .hears .fails h (before .closed) (before .marks));
+                  (hearOne p e (notesAt g n m w) (heardOf v (before .closed)) (timedAt p v i)) (timedFrom p (v .tick + itemTicks p (asItem i)) left)
+                  (t .hears .fails h (before .closed) (before .marks));
               goes = λ o. absurd (true≢false (sym o ∙ h));
               paced = λ o. absurd (true≢false (sym o ∙ h));
             };
@@ -98,7 +102,11 @@ reading-end {g} {n} {m} {e} {p} {all} {w₀} {w} {v₀} {v} now =
                 λ o cs c.
                 let done = now .hears cs c in
                 let q = ap (λ (a : Heard). a .closed) (done .same) in
-                record { marks = subst (Marks g n m w) q (done .marks); is = subst (λ (l : List Played). heardOf v l ≡ run p e (notesAt g n m w₀) (heardOf v₀ cs) (timedFrom p (v₀ .tick) all)) q (done .same) };
+                record {
+                  marks = subst (Marks g n m w) q (done .marks);
+                  is =
+                      subst (λ (l : List Played). heardOf v l ≡ run p e (notesAt g n m w₀) (heardOf v₀ cs) (timedFrom p (v₀ .tick) all)) q (done .same);
+                };
             paced = λ o. now .paced;
           };
       tick = λ o. omega (arith, now .ticks);
@@ -129,4 +137,5 @@ module _ {g n m e p : ℕ} {w₀ w : List ℕ} {v₀ v : Voice} (hs ks : List �
       → TakesAll g n m e p (itemsOf hs ks first count) w₀ w v₀ v
   arrays-end {i} h r =
       reading-end
-      (subst (λ (is : List items.Item). Reading g n m e p (itemsOf hs ks first count) is w₀ w v₀ v) (items-none (drop (first + i) (readItems hs ks)) count i h) r)
+      (subst (λ (is : List items.Item). Reading g n m e p (itemsOf hs ks first count) is w₀ w v₀ v)
+      (items-none (drop (first + i) (readItems hs ks)) count i h) r)

@@ -26,7 +26,8 @@ bit-own j k =
           (elim (by-eq (bit k (2 ^ j)) 1) [ inl h ↦ absurd (e (key-only j k h)) | inr h ↦ omega arith ])
     ]
 
-shifted : (k : ℕ) → k < 64 → 1 * 2 ^ k % 2 ^ 64 ≡ 2 ^ k
+-- a bit shifted left within a word
+pub shifted : (k : ℕ) → k < 64 → 1 * 2 ^ k % 2 ^ 64 ≡ 2 ^ k
 shifted k h = rw one-mul (mod-eq-of-lt (pow-lt {j = 64} h))
 
 -- a word with one key more

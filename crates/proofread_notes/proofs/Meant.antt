@@ -81,7 +81,8 @@ module _ (e : ℕ) (ns : List RawNote) (c : Chord) (x : Group) (g : Gathered ns 
   behind-end l =
       rw (le-ltb (c .start) e l)
       (says-as (says-and (says-none (c .low) cl) (says-none (c .high) ch)) (
-        λ f k o has. elim (by-word k (c .low) (c .high) o cl has) [ inl w ↦ absurd (f .0 k (w .0) (w .1)) | inr w ↦ absurd (f .1 (k - 64) (omega arith) (w .1)) ],
+        λ f k o has. elim (by-word k (c .low) (c .high) o cl has)
+            [ inl w ↦ absurd (f .0 k (w .0) (w .1)) | inr w ↦ absurd (f .1 (k - 64) (omega arith) (w .1)) ],
         λ f. (
           λ k o has. no-note l k (f k (omega arith) (low-bit k (c .low) (c .high) o cl ∙ has)),
           λ k o has. no-note l (64 + k) (f (64 + k) (omega arith) (high-bit k (c .low) (c .high) cl ∙ has)),
@@ -119,10 +120,17 @@ module _ {g n m : ℕ} {c : Chord} {w w′ : List ℕ} {x : Group} (ready : Read
 
 -- ---- the whole
 module _ {g n m e : ℕ} {c : Chord} {next : ℕ} {w w′ : List ℕ} {x : Group} {at : ℕ} (ready : Readable g n m w) (s : Scanned g n m c w w′ x)
-    (skipped : Skipped g n m w (c .start) at) (cl : c .low < 2 ^ 64) (ch : c .high < 2 ^ 64) (xl : x .low < 2 ^ 64) (xh : x .high < 2 ^ 64) {fit : Bool} (f : fit ≡ keysFit? c x e) where
-  pub checks-yes : {ok : Bool} → fit ≡ true → ok ≡ (x .ended || eqb (c .end) next || eqb (c .end) e) → Checks g n m e c next w w′ (record { ok = ok; from = at })
+    (skipped : Skipped g n m w (c .start) at) (cl : c .low < 2 ^ 64) (ch : c .high < 2 ^ 64) (xl : x .low < 2 ^ 64) (xh : x .high < 2 ^ 64) {fit : Bool}
+    (f : fit ≡ keysFit? c x e) where
+  pub checks-yes : {ok : Bool} → fit ≡ true → ok ≡ (x .ended || eqb (c .end) next || eqb (c .end) e)
+      → Checks g n m e c next w w′ (record { ok = ok; from = at })
   checks-yes t o =
-      record { ok = o ∙ chord-yes e (notesAt g n m w) c x (s .group) cl ch xl xh next (sym f ∙ t); same = s .same; skipped = skipped; marks = marks-more ready s }
+      record {
+        ok = o ∙ chord-yes e (notesAt g n m w) c x (s .group) cl ch xl xh next (sym f ∙ t);
+        same = s .same;
+        skipped = skipped;
+        marks = marks-more ready s;
+      }
 
   pub checks-no : fit ≡ false → Checks g n m e c next w w′ (record { ok = false; from = at })
   checks-no t =

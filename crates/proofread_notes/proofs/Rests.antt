@@ -6,11 +6,9 @@ use mathlib.Core.Path.{_≡_, refl, sym, ap, _∙_}
 use native.Mathlib.Nat.{sub-zero}
 use native.Mathlib.Numerals.{add-one}
 use native.Mathlib.Omega.{arith}
-use lib.ListN.{length, getD, length-map}
-use lib.Seq.{ext-getD}
 use Rattle.rules.specs.Lists.{any, every, flag}
 use Rattle.laws.specs.Sort.{count}
-use Rattle.laws.proofs.Sort.{length-count, count-cons, count-none}
+use Rattle.laws.proofs.Sort.{count-cons, count-none}
 
 abbrev pub restOf : {A : Type 0} → (ℕ → A) → ℕ → ℕ → List A
 restOf f m i = map f (count i (m - i))
@@ -46,18 +44,6 @@ module _ {A : Type 0} (f : ℕ → A) (m : ℕ) where
         let e : any p (restOf f m i) ≡ any p (restOf f m (i + 1)) = any-one i (omega arith) ∙ rw (h i (omega arith)) in
         none-before i (omega arith) (λ j o. h j (omega arith)) ∙ e ∙ ap (λ (j : ℕ). any p (restOf f m j)) (add-one i)
 
-  -- the list by its places
-  pub rest-is : (d : A) (xs : List A) → length xs ≡ m → ((i : ℕ) → i < m → f i ≡ getD xs i d) → map f (count 0 m) ≡ xs
-  unfolding count
-  rest-is d xs e h =
-      let l : length (map f (count 0 m)) ≡ m = length-map (count 0 m) f ∙ length-count 0 m in
-      ext-getD d (map f (count 0 m)) xs (l ∙ sym e) (λ i o. let b : i < m = omega arith in at m 0 i b ∙ ap f (omega arith) ∙ h i b)
-    where
-      at : (k a i : ℕ) → i < k → getD (map f (count a k)) i d ≡ f (a + i)
-      at zero a i h = absurd (omega arith)
-      at (suc k) a zero h = ap f (omega arith)
-      at (suc k) a (suc i) h = at k (suc a) i (omega arith) ∙ ap f (omega arith)
-
 -- two places that give the same
 pub rest-same : {A : Type 0} (f g : ℕ → A) (k a : ℕ) → ((j : ℕ) → a ≤ j → j < a + k → f j ≡ g j) → map f (count a k) ≡ map g (count a k)
 unfolding count
@@ -77,14 +63,6 @@ pub flag-or : (a b : Bool) → flag (a || b) ≡ max (flag a) (flag b)
 flag-or true true = omega arith
 flag-or true false = omega arith
 flag-or false b = omega arith
-
-pub or-assoc : (a b c : Bool) → ((a || b) || c) ≡ (a || (b || c))
-or-assoc true b c = refl
-or-assoc false b c = refl
-
-pub or-none : (a : Bool) → (a || false) ≡ a
-or-none true = refl
-or-none false = refl
 
 -- a loop that tests each place
 module _ (p : ℕ → Bool) (m i : ℕ) (b : Bool) (left : every p (count i (m - i)) ≡ b) (h : i < m) where

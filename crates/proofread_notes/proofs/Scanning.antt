@@ -1,6 +1,6 @@
 -- A scan of the notes of a chord's start: what is known of them up to place i, and the marks put so far.
 use Prim.Native.Nat.{ℕ, _+_, _*_, _^_, _≤_, _<_, max}
-use mathlib.Core.Bool.{Bool, true, false, cond, _&&_, _||_}
+use mathlib.Core.Bool.{Bool, true, false, cond, _&&_, _||_, or-assoc, or-false}
 use mathlib.Core.List.{List, map}
 use mathlib.Core.Logic.{inl, inr}
 use mathlib.Core.Path.{_≡_, refl, sym, ap, _∙_}
@@ -15,13 +15,14 @@ use Rattle.rules.specs.RawNotes.{RawNote}
 use Rattle.rules.specs.ProofReader.{Played}
 use Rattle.rules.specs.ProofReaderTests.{hasKey?}
 use Rattle.laws.proofs.Order.{by-eq, by-lt}
+use Rattle.laws.proofs.Largest.{max-assoc}
 use Rattle.laws.specs.Sort.{count}
 use Rattle.proofread_notes.specs.Columns.{snapAt, Readable, Same, Skipped, hears?}
 use Rattle.proofread_notes.specs.Chords.{playedOf, keysOf, isNote?, WithNote, Took, Gathered, Scanned}
 use Rattle.proofread_notes.specs.declared.Chord.{Chord}
 use Rattle.proofread_notes.specs.declared.Group.{Group}
 use Rattle.proofread_notes.proofs.Areas.{same-self, same-then, snap-same}
-use Rattle.proofread_notes.proofs.Rests.{restOf, any-one, none-left, none-before, flag-or, or-assoc, or-none}
+use Rattle.proofread_notes.proofs.Rests.{restOf, any-one, none-left, none-before, flag-or}
 
 -- a note of the chord's start and end
 abbrev pub isEnd? : Played → RawNote → Bool
@@ -30,13 +31,11 @@ isEnd? c n = eqb (n .start) (c .start) && eqb (n .end) (c .end)
 pub record Partly (f : ℕ → RawNote) (m : ℕ) (c : Played) (i : ℕ) (x : Group) : Type 0 where
   pub ended : (x .ended || any (isEnd? c) (restOf f m i)) ≡ any (isEnd? c) (map f (count 0 m))
   pub low : (k : ℕ) → k < 64 → max (bit k (x .low)) (flag (any (isNote? (c .start) k) (restOf f m i))) ≡ flag (any (isNote? (c .start) k) (map f (count 0 m)))
-  pub high : (k : ℕ) → k < 64 → max (bit k (x .high)) (flag (any (isNote? (c .start) (64 + k)) (restOf f m i))) ≡ flag (any (isNote? (c .start) (64 + k)) (map f (count 0 m)))
+  pub high : (k : ℕ) → k < 64
+      → max (bit k (x .high)) (flag (any (isNote? (c .start) (64 + k)) (restOf f m i))) ≡ flag (any (isNote? (c .start) (64 + k)) (map f (count 0 m)))
 
 abbrev pub noGroup : Group
 noGroup = record { low = 0; high = 0; ended = false }
-
-max-assoc : (a b c : ℕ) → max (max a b) c ≡ max a (max b c)
-max-assoc a b c = omega arith
 
 -- a note of another start is none of the chord's
 other-note : (a s : ℕ) (b : Bool) → (a ≡ s → ⊥) → (eqb a s && b) ≡ false
@@ -50,8 +49,18 @@ module _ (f : ℕ → RawNote) (m : ℕ) (c : Played) where
   partly-start i l h =
       record {
         ended = sym (none-before f m (isEnd? c) i l (λ j o. other-note (f j .start) (c .start) _ (λ e. omega (arith, h j o))));
-        low = λ k o. omega (arith, none-yet k, ap flag (none-before f m (isNote? (c .start) k) i l (λ j b. other-note (f j .start) (c .start) _ (λ e. omega (arith, h j b)))));
-        high = λ k o. omega (arith, none-yet k, ap flag (none-before f m (isNote? (c .start) (64 + k)) i l (λ j b. other-note (f j .start) (c .start) _ (λ e. omega (arith, h j b)))));
+        low =
+            λ k o. omega (
+              arith,
+              none-yet k,
+              ap flag (none-before f m (isNote? (c .start) k) i l (λ j b. other-note (f j .start) (c .start) _ (λ e. omega (arith, h j b)))),
+            );
+        high =
+            λ k o. omega (
+              arith,
+              none-yet k,
+              ap flag (none-before f m (isNote? (c .start) (64 + k)) i l (λ j b. other-note (f j .start) (c .start) _ (λ e. omega (arith, h j b)))),
+            );
       }
 
   module _ (i : ℕ) (x r : Group) (h : i < m) (here : f i .start ≡ c .start) where
@@ -59,7 +68,7 @@ module _ (f : ℕ → RawNote) (m : ℕ) (c : Played) where
         → max b (flag (any (isNote? (c .start) k) (restOf f m (i + 1)))) ≡ max a (flag (any (isNote? (c .start) k) (restOf f m i)))
     key-step k a b e =
         rw (any-one f m (isNote? (c .start) k) i h, eq-eqb (f i .start) (c .start) here, flag-or, e)
-        (max-assoc a (flag (eqb (f i .key) k)) (flag (any (isNote? (c .start) k) (restOf f m (i + 1)))))
+        (sym (max-assoc a (flag (eqb (f i .key) k)) (flag (any (isNote? (c .start) k) (restOf f m (i + 1))))))
 
     partly-more : r .ended ≡ (x .ended || eqb (f i .end) (c .end)) → ((k : ℕ) → k < 64 → bit k (r .low) ≡ max (bit k (x .low)) (flag (eqb (f i .key) k)))
         → ((k : ℕ) → k < 64 → bit k (r .high) ≡ max (bit k (x .high)) (flag (eqb (f i .key) (64 + k)))) → Partly f m c i x → Partly f m c (i + 1) r
@@ -72,9 +81,14 @@ module _ (f : ℕ → RawNote) (m : ℕ) (c : Played) where
 
   partly-end : (i : ℕ) (x : Group) → ((j : ℕ) → i ≤ j → j < m → c .start < f j .start) → Partly f m c i x → Gathered (map f (count 0 m)) c x
   partly-end i x h p =
-      let none : (k : ℕ) → any (isNote? (c .start) k) (restOf f m i) ≡ false = λ k. none-left f m (isNote? (c .start) k) i (λ j l o. other-note (f j .start) (c .start) _ (λ e. omega (arith, h j l o))) in
+      let none : (k : ℕ) → any (isNote? (c .start) k) (restOf f m i) ≡ false = λ k. none-left f m (isNote? (c .start) k) i
+      (λ j l o. other-note (f j .start) (c .start) _ (λ e. omega (arith, h j l o))) in
       record {
-        ended = sym (or-none (x .ended)) ∙ sym (ap (λ (b : Bool). x .ended || b) (none-left f m (isEnd? c) i (λ j l o. other-note (f j .start) (c .start) _ (λ e. omega (arith, h j l o))))) ∙ p .ended;
+        ended =
+            sym (or-false (x .ended))
+            ∙ sym
+            (ap (λ (b : Bool). x .ended || b) (none-left f m (isEnd? c) i (λ j l o. other-note (f j .start) (c .start) _ (λ e. omega (arith, h j l o)))))
+            ∙ p .ended;
         low = λ k o. omega (arith, p .low k o, ap flag (none k));
         high = λ k o. omega (arith, p .high k o, ap flag (none (64 + k)));
       }

@@ -1,6 +1,6 @@
 -- What is heard of a voice item by item is section 8's playback, and its tests are section 8's.
 use Prim.Native.Nat.{ℕ}
-use mathlib.Core.Bool.{Bool, true, false, cond, _&&_, _||_}
+use mathlib.Core.Bool.{Bool, true, false, cond, _&&_, _||_, and-assoc, and-true, and-false, and-comm}
 use mathlib.Core.List.{List, [], _∷_, _++_, reverse, reverse-cons, foldl-append}
 use mathlib.Core.Option.{Option, none, some}
 use mathlib.Core.Path.{_≡_, refl, sym, ap, _∙_}
@@ -14,7 +14,18 @@ use Rattle.rules.specs.ProofReaderTests.{staffValue?, clean?, meets?, freeAt?, 
 use Rattle.proofread_notes.specs.Chords.{chordOk?}
 use Rattle.proofread_items.specs.Playing.{Heard, fits?, lastOk?, closedWith, prolongedTo, soundOk?, chordAfter, closedAfter, hearOne, run}
 use Rattle.proofread_voices.specs.Voices.{filled?, withOk, voiceRun, silent, voiceOk?}
-use Rattle.proofread_staff.proofs.Shuffles.{and-assoc, and-true, and-false, and-comm, and-swap}
+
+-- ---- tests in another order
+
+and-swap : (a b c : Bool) → ((a && b) && c) ≡ ((a && c) && b)
+and-swap true b c = and-comm b c
+and-swap false b c = refl
+
+pub and-cross : (a b A B : Bool) → ((a && b) && (A && B)) ≡ ((a && A) && (b && B))
+and-cross true true A B = refl
+and-cross true false true B = refl
+and-cross true false false B = refl
+and-cross false b A B = refl
 
 -- ---- the last chord, and those before it
 
@@ -35,8 +46,12 @@ module _ (p e : ℕ) (ns : List RawNote) where
   hear-chord t cs = by (t .item .rest) (t .item .tieIn) cs
     where
       by : (r i : Bool) (cs : List Played)
-          → cond r (lastOf cs) (cond i (prolongedTo (t .to) (lastOf cs)) (some (record { start = t .from; end = t .to; keys = t .item .keys; unpitched = t .item .unpitched })))
-          ≡ lastOf (cond r cs (cond i (prolonged (t .to) cs) (record { start = t .from; end = t .to; keys = t .item .keys; unpitched = t .item .unpitched } ∷ cs)))
+          → cond r (lastOf cs)
+          (cond i (prolongedTo (t .to) (lastOf cs))
+          (some (record { start = t .from; end = t .to; keys = t .item .keys; unpitched = t .item .unpitched })))
+          ≡ lastOf
+          (cond r cs
+          (cond i (prolonged (t .to) cs) (record { start = t .from; end = t .to; keys = t .item .keys; unpitched = t .item .unpitched } ∷ cs)))
       by true i cs = refl
       by false true [] = refl
       by false true (c ∷ cs) = refl
@@ -47,7 +62,10 @@ module _ (p e : ℕ) (ns : List RawNote) where
     where
       by : (r i : Bool) (cs : List Played)
           → cond r (earlierOf cs ++ base) (cond i (earlierOf cs ++ base) (closedWith (lastOf cs) (earlierOf cs ++ base)))
-          ≡ earlierOf (cond r cs (cond i (prolonged (t .to) cs) (record { start = t .from; end = t .to; keys = t .item .keys; unpitched = t .item .unpitched } ∷ cs))) ++ base
+          ≡ earlierOf
+          (cond r cs
+          (cond i (prolonged (t .to) cs) (record { start = t .from; end = t .to; keys = t .item .keys; unpitched = t .item .unpitched } ∷ cs)))
+          ++ base
       by true i cs = refl
       by false true [] = refl
       by false true (c ∷ cs) = refl
@@ -94,7 +112,8 @@ module _ (p e : ℕ) (ns : List RawNote) where
   ok-parts ok h cs [] = sym (and-true ok)
   ok-parts ok h cs (t ∷ ts) =
       ok-parts (ok && (fits? p h t && soundOk? e ns (lastOf cs) t)) (tieAfter t) (hear t cs) ts
-      ∙ shuffle ok (goodItem? (t .item)) (meets? h t) (soundOk? e ns (lastOf cs) t) (every (λ (t : Timed). goodItem? (t .item)) ts) (meetAll? (tieAfter t) ts) (closeAll? (hear t cs) ts)
+      ∙ shuffle ok (goodItem? (t .item)) (meets? h t) (soundOk? e ns (lastOf cs) t) (every (λ (t : Timed). goodItem? (t .item)) ts)
+      (meetAll? (tieAfter t) ts) (closeAll? (hear t cs) ts)
     where
       shuffle : (o g m s G M C : Bool) → ((o && ((g && m) && s)) && (G && (M && C))) ≡ (o && ((g && G) && ((m && M) && (s && C))))
       shuffle false g m s G M C = refl
@@ -109,7 +128,9 @@ module _ (p e : ℕ) (ns : List RawNote) where
   pub ties-are : (h : Option Tie) (ts : List Timed) → (meetAll? h ts && freeAt? e (tieLast h ts)) ≡ tied? e h ts
   unfolding meetAll? tieLast tied?
   ties-are h [] = refl
-  ties-are h (t ∷ ts) = and-assoc (meets? h t) (meetAll? (tieAfter t) ts) (freeAt? e (tieLast (tieAfter t) ts)) ∙ ap (λ (b : Bool). meets? h t && b) (ties-are (tieAfter t) ts)
+  ties-are h (t ∷ ts) =
+      and-assoc (meets? h t) (meetAll? (tieAfter t) ts) (freeAt? e (tieLast (tieAfter t) ts))
+      ∙ ap (λ (b : Bool). meets? h t && b) (ties-are (tieAfter t) ts)
 
   -- ---- chords
 
@@ -132,7 +153,9 @@ module _ (p e : ℕ) (ns : List RawNote) where
   hear-earlier t cs = by (t .item .rest) (t .item .tieIn) cs
     where
       by : (r i : Bool) (cs : List Played)
-          → earlierOk? (cond r cs (cond i (prolonged (t .to) cs) (record { start = t .from; end = t .to; keys = t .item .keys; unpitched = t .item .unpitched } ∷ cs)))
+          → earlierOk?
+          (cond r cs
+          (cond i (prolonged (t .to) cs) (record { start = t .from; end = t .to; keys = t .item .keys; unpitched = t .item .unpitched } ∷ cs)))
           ≡ (cond r true (cond i true (lastOk? e ns (lastOf cs) (t .from))) && earlierOk? cs)
       by true i cs = refl
       by false true [] = refl
@@ -187,13 +210,8 @@ module _ (p e : ℕ) (ns : List RawNote) where
       last false w f = refl
   order-points (c ∷ d ∷ cs) =
       ap (λ (b : Bool). (keysMeant? e ns c && (endsWithNote? ns c || eqb (c .end) (d .start) || eqb (c .end) e)) && b) (order-points (d ∷ cs))
-      ∙ shuffle (keysMeant? e ns c) (endsWithNote? ns c || eqb (c .end) (d .start) || eqb (c .end) e) (every (keysMeant? e ns) (d ∷ cs)) (endsMeant? e ns (d ∷ cs))
-    where
-      shuffle : (k w K W : Bool) → ((k && w) && (K && W)) ≡ ((k && K) && (w && W))
-      shuffle true true K W = refl
-      shuffle true false true W = refl
-      shuffle true false false W = refl
-      shuffle false w K W = refl
+      ∙ and-cross (keysMeant? e ns c) (endsWithNote? ns c || eqb (c .end) (d .start) || eqb (c .end) e)
+      (every (keysMeant? e ns) (d ∷ cs)) (endsMeant? e ns (d ∷ cs))
 
   -- the chords of a voice that are heard are those that are meant
   pub chords-points : (cs : List Played) → chordsOk? e cs ≡ (every (keysMeant? e ns) (reverse cs) && endsMeant? e ns (reverse cs))
@@ -232,16 +250,20 @@ module _ (p e : ℕ) (ns : List RawNote) where
       voice-run v (withOk x (filled? p v b is)) bs st
       ∙ ap (λ (z : Heard). withOk z (fullIn? v bs st)) (run-with x (filled? p v b is) (voiceTimed p v bs st))
       ∙ (λ i. record { ok = and-assoc (y .ok) (filled? p v b is) (fullIn? v bs st) i; tie = y .tie; chord = y .chord; closed = y .closed })
-      ∙ ap (λ (z : Heard). withOk z (filled? p v b is && fullIn? v bs st)) (sym (foldl-append (hearOne p e ns) a (timedFrom p (b .start) is) (voiceTimed p v bs st)))
+      ∙ ap (λ (z : Heard). withOk z (filled? p v b is && fullIn? v bs st))
+      (sym (foldl-append (hearOne p e ns) a (timedFrom p (b .start) is) (voiceTimed p v bs st)))
 
   -- voice v from the beginning
   module _ (v : ℕ) (base : List Played) (bs : List Bar) (st : Staff) where
     whole : voiceRun p e ns v (silent base) bs st
-        ≡ withOk (heardIn (okAfter true none [] (voiceTimed p v bs st)) (tieLast none (voiceTimed p v bs st)) (heardAfter [] (voiceTimed p v bs st)) base) (fullIn? v bs st)
+        ≡ withOk
+        (heardIn (okAfter true none [] (voiceTimed p v bs st)) (tieLast none (voiceTimed p v bs st)) (heardAfter [] (voiceTimed p v bs st)) base)
+        (fullIn? v bs st)
     whole = voice-run v (silent base) bs st ∙ ap (λ (z : Heard). withOk z (fullIn? v bs st)) (run-is true none [] base (voiceTimed p v bs st))
 
     -- its chords, those of voices read before behind them
-    pub voice-chords : closedWith (voiceRun p e ns v (silent base) bs st .chord) (voiceRun p e ns v (silent base) bs st .closed) ≡ heardAfter [] (voiceTimed p v bs st) ++ base
+    pub voice-chords : closedWith (voiceRun p e ns v (silent base) bs st .chord) (voiceRun p e ns v (silent base) bs st .closed)
+        ≡ heardAfter [] (voiceTimed p v bs st) ++ base
     voice-chords = ap (λ (a : Heard). closedWith (a .chord) (a .closed)) whole ∙ all (heardAfter [] (voiceTimed p v bs st))
       where
         all : (cs : List Played) → closedWith (lastOf cs) (earlierOf cs ++ base) ≡ cs ++ base
@@ -256,8 +278,10 @@ module _ (p e : ℕ) (ns : List RawNote) where
         let us : List Timed = voiceTimed p v bs st in
         ap (voiceOk? e ns) whole
         ∙ ap (λ (b : Bool). (b && fullIn? v bs st) && freeAt? e (tieLast none us) && lastOk? e ns (lastOf (heardAfter [] us)) e) (ok-parts true none [] us)
-        ∙ shuffle (every (λ (t : Timed). goodItem? (t .item)) us) (meetAll? none us) (closeAll? [] us) (fullIn? v bs st) (freeAt? e (tieLast none us)) (lastOk? e ns (lastOf (heardAfter [] us)) e)
-        ∙ (λ i. every (λ (t : Timed). goodItem? (t .item)) us && fullIn? v bs st && ties-are none us i && (chords-are [] us ∙ chords-points (heardAfter [] us)) i)
+        ∙ shuffle (every (λ (t : Timed). goodItem? (t .item)) us) (meetAll? none us) (closeAll? [] us) (fullIn? v bs st) (freeAt? e (tieLast none us))
+        (lastOk? e ns (lastOf (heardAfter [] us)) e)
+        ∙ (λ i. every (λ (t : Timed). goodItem? (t .item)) us && fullIn? v bs st && ties-are none us i
+        && (chords-are [] us ∙ chords-points (heardAfter [] us)) i)
       where
         shuffle : (g m c f t l : Bool) → (((g && (m && c)) && f) && t && l) ≡ (g && f && (m && t) && ((c && l) && true))
         shuffle false m c f t l = refl

@@ -3,5 +3,4 @@ pub mod Hearing
 pub mod Measuring
 pub mod Points
 pub mod Shapes
-pub mod Shuffles
 pub mod Staffing

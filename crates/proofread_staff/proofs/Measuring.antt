@@ -1,6 +1,6 @@
 -- Notes that are off the grid are counted one by one, and bars are measured one by one.
 use Prim.Native.Nat.{ℕ, _+_, _-_, _/_, _%_, _^_, _≤_, _<_}
-use mathlib.Core.Bool.{Bool, true, false, _&&_}
+use mathlib.Core.Bool.{Bool, true, false, _&&_, and-assoc, and-true}
 use mathlib.Core.List.{List, [], _∷_, map}
 use mathlib.Core.Logic.{inl, inr}
 use mathlib.Core.Path.{_≡_, sym, ap, _∙_}
@@ -9,7 +9,7 @@ use borrow.Author.Tests.{lt-ltb, le-ltb}
 use lib.Dec.{eqb, ltb}
 use lib.ListN.{length}
 use Rattle.rules.specs.Lists.{every, keep, lastOr, flag}
-use Rattle.rules.specs.Bars.{Bar, barEnd, barsIn, lastBarEnd, mostBars}
+use Rattle.rules.specs.Bars.{Bar, barEnd, barsIn, lastBarEnd}
 use Rattle.rules.specs.Grid.{sixteenth, isOffGrid, offCount}
 use Rattle.laws.proofs.Order.{by-bool}
 use Rattle.track_events.specs.Track.{eventsOf}
@@ -21,7 +21,6 @@ use Rattle.proofread_notes.specs.Columns.{rawAt}
 use Rattle.proofread_notes.proofs.Rests.{restOf, rest-all, rest-cons, rest-none}
 use Rattle.proofread_staff.specs.Staffs.{rawsAt, withBar, Measures}
 use Rattle.proofread_staff.specs.declared.Measured.{Measured}
-use Rattle.proofread_staff.proofs.Shuffles.{and-assoc, and-true}
 
 -- ---- notes off the grid
 
@@ -49,18 +48,19 @@ module _ (p n m : ℕ) (w : List ℕ) where
 abbrev pub even : ℕ → Bar → Bool
 even u b = eqb (b .len % u) 0
 
-pub record Measuring (ds ws : List ℕ) (p end u : ℕ) (walker : Walker) (x : Measured) : Type 0 where
+pub record Measuring (ds ws : List ℕ) (p end limit u : ℕ) (walker : Walker) (x : Measured) : Type 0 where
   pub walking : Walking ds ws p walker
-  pub few : x .bars ≤ 10000
+  pub few : x .bars ≤ limit
   pub reached : x .end ≡ walker .start
-  pub bars : x .bars + length (barsAhead ds ws end (mostBars - x .bars) walker) ≡ length (barsIn mostBars p (eventsOf ds ws) end)
-  pub last : lastOr (x .end) (map barEnd (barsAhead ds ws end (mostBars - x .bars) walker)) ≡ lastBarEnd (barsIn mostBars p (eventsOf ds ws) end)
-  pub evens : (x .even && every (even u) (barsAhead ds ws end (mostBars - x .bars) walker)) ≡ every (even u) (barsIn mostBars p (eventsOf ds ws) end)
+  pub bars : x .bars + length (barsAhead ds ws end (limit - x .bars) walker) ≡ length (barsIn limit p (eventsOf ds ws) end)
+  pub last : lastOr (x .end) (map barEnd (barsAhead ds ws end (limit - x .bars) walker)) ≡ lastBarEnd (barsIn limit p (eventsOf ds ws) end)
+  pub evens : (x .even && every (even u) (barsAhead ds ws end (limit - x .bars) walker)) ≡ every (even u) (barsIn limit p (eventsOf ds ws) end)
 
-module _ {ds ws : List ℕ} {p end u : ℕ} where
-  pub measuring-start : {walker : Walker} → Settled ds ws (firstWalker ds ws p) walker → Measuring ds ws p end u walker (record { bars = 0; end = 0; even = true })
+module _ {ds ws : List ℕ} {p end limit u : ℕ} where
+  pub measuring-start : {walker : Walker} → Settled ds ws (firstWalker ds ws p) walker
+      → Measuring ds ws p end limit u walker (record { bars = 0; end = 0; even = true })
   measuring-start s =
-      let all = ahead-all end mostBars p s in
+      let all = ahead-all end limit p s in
       record {
         walking = walking-start s;
         few = omega arith;
@@ -70,11 +70,11 @@ module _ {ds ws : List ℕ} {p end u : ℕ} where
         evens = ap (every (even u)) all;
       }
 
-  module _ {walker : Walker} {x : Measured} (now : Measuring ds ws p end u walker x) where
-    pub measuring-end : 10000 ≤ x .bars → Measures (barsIn mostBars p (eventsOf ds ws) end) u x
+  module _ {walker : Walker} {x : Measured} (now : Measuring ds ws p end limit u walker x) where
+    pub measuring-end : limit ≤ x .bars → Measures limit (barsIn limit p (eventsOf ds ws) end) u x
     unfolding every
     measuring-end h =
-        let none = ahead-end ds ws walker {limit = mostBars} {n = x .bars} end h in
+        let none = ahead-end ds ws walker end h in
         record {
           bars = omega (arith, now .bars, ap length none);
           few = now .few;
@@ -82,17 +82,21 @@ module _ {ds ws : List ℕ} {p end u : ℕ} where
           even = sym (and-true (x .even)) ∙ rw none at (now .evens);
         }
 
-    module _ (h : x .bars < 10000) (len : ℕ) (long : len ≡ barOf walker .len) where
+    module _ (h : x .bars < limit) (len : ℕ) (long : len ≡ barOf walker .len) where
       -- one bar in front of those that follow
-      evens-step : (bs : List Bar) → barsAhead ds ws end (mostBars - x .bars) walker ≡ barOf walker ∷ bs
-          → ((x .even && eqb (len % u) 0) && every (even u) bs) ≡ every (even u) (barsIn mostBars p (eventsOf ds ws) end)
+      evens-step : (bs : List Bar) → barsAhead ds ws end (limit - x .bars) walker ≡ barOf walker ∷ bs
+          → ((x .even && eqb (len % u) 0) && every (even u) bs) ≡ every (even u) (barsIn limit p (eventsOf ds ws) end)
       unfolding every
-      evens-step bs q = rw long (and-assoc (x .even) (eqb (barOf walker .len % u) 0) (every (even u) bs) ∙ sym (ap (λ (l : List Bar). x .even && every (even u) l) q) ∙ now .evens)
+      evens-step bs q =
+          rw long
+          (and-assoc (x .even) (eqb (barOf walker .len % u) 0) (every (even u) bs)
+          ∙ sym (ap (λ (l : List Bar). x .even && every (even u) l) q)
+          ∙ now .evens)
 
-      pub measuring-last : end ≤ nextOf walker .start → Measures (barsIn mostBars p (eventsOf ds ws) end) u (withBar x len (nextOf walker .start) u)
+      pub measuring-last : end ≤ nextOf walker .start → Measures limit (barsIn limit p (eventsOf ds ws) end) u (withBar x len (nextOf walker .start) u)
       unfolding every
       measuring-last o =
-          let q = ahead-last (now .walking .bar) {limit = mostBars} {n = x .bars} end h o in
+          let q = ahead-last (now .walking .bar) end h o in
           record {
             bars = omega (arith, now .bars, ap length q);
             few = omega arith;
@@ -101,16 +105,16 @@ module _ {ds ws : List ℕ} {p end u : ℕ} where
           }
 
       pub measuring-more : {next : Walker} → end < 2 ^ 48 → Settled ds ws (nextOf walker) next → nextOf walker .start < end
-          → Measuring ds ws p end u next (withBar x len (nextOf walker .start) u)
+          → Measuring ds ws p end limit u next (withBar x len (nextOf walker .start) u)
       measuring-more {next} small s on =
-          let q = ahead-more (now .walking .bar) {limit = mostBars} {n = x .bars} end h s on in
+          let q = ahead-more (now .walking .bar) end h s on in
           record {
             walking = walking-on (now .walking) s end small on;
             few = omega arith;
             reached = sym (s .same .start);
             bars = omega (arith, now .bars, ap length q);
             last = sym (ap (λ (l : List Bar). lastOr (x .end) (map barEnd l)) q) ∙ now .last;
-            evens = evens-step (barsAhead ds ws end (mostBars - (x .bars + 1)) next) q;
+            evens = evens-step (barsAhead ds ws end (limit - (x .bars + 1)) next) q;
           }
 
 -- the next bar's start less the bar's is the bar's length

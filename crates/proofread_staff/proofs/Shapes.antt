@@ -45,7 +45,8 @@ module _ {bars : ℕ} {counts heads keys : List ℕ} where
   pub shape-counts : (length counts ≡ 4 * bars → ⊥) → Shapes bars counts heads keys false
   shape-counts h = record { is = rw (ne-eqb (length counts) (4 * bars) h); few = λ y. absurd (true≢false (sym y)); small = λ y. absurd (true≢false (sym y)) }
 
-  module _ (few : bars ≤ 10000) (h : length counts ≡ 4 * bars) {total : ℕ} (t : total ≡ sum (take (length counts) (drop 0 counts))) (bound : total ≤ length counts * 4294967295) where
+  module _ (few : bars ≤ 10000) (h : length counts ≡ 4 * bars) {total : ℕ} (t : total ≡ sum (take (length counts) (drop 0 counts)))
+      (bound : total ≤ length counts * 4294967295) where
     pub shape-heads : (length heads ≡ total → ⊥) → Shapes bars counts heads keys false
     shape-heads o =
         record {
@@ -58,7 +59,11 @@ module _ {bars : ℕ} {counts heads keys : List ℕ} where
     shape-keys q o =
         record {
           is =
-              rw (eq-eqb (length counts) (4 * bars) h, eq-eqb (length heads) (sum counts) (q ∙ all-counts counts t), ne-eqb (length keys) (2 * sum counts) (λ e. o (e ∙ ap (λ (x : ℕ). 2 * x) (sym (all-counts counts t)))));
+              rw (
+                eq-eqb (length counts) (4 * bars) h,
+                eq-eqb (length heads) (sum counts) (q ∙ all-counts counts t),
+                ne-eqb (length keys) (2 * sum counts) (λ e. o (e ∙ ap (λ (x : ℕ). 2 * x) (sym (all-counts counts t)))),
+              );
           few = λ y. absurd (true≢false (sym y));
           small = λ y. absurd (true≢false (sym y));
         }
@@ -66,7 +71,14 @@ module _ {bars : ℕ} {counts heads keys : List ℕ} where
     pub shape-bits : length heads ≡ total → length keys ≡ 2 * total → {r : Bool} → r ≡ headsMean? heads → Shapes bars counts heads keys r
     shape-bits q o m =
         record {
-          is = m ∙ sym (rw (eq-eqb (length counts) (4 * bars) h, eq-eqb (length heads) (sum counts) (q ∙ all-counts counts t), eq-eqb (length keys) (2 * sum counts) (o ∙ ap (λ (x : ℕ). 2 * x) (all-counts counts t))));
+          is =
+              m
+              ∙ sym
+              (rw (
+                eq-eqb (length counts) (4 * bars) h,
+                eq-eqb (length heads) (sum counts) (q ∙ all-counts counts t),
+                eq-eqb (length keys) (2 * sum counts) (o ∙ ap (λ (x : ℕ). 2 * x) (all-counts counts t)),
+              ));
           few = λ y. omega arith;
           small = λ y. omega arith;
         }

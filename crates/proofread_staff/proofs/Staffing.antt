@@ -1,6 +1,6 @@
 -- The four voices one after the other, and the notes that are found in them.
 use Prim.Native.Nat.{ℕ, zero, suc, _+_, _-_, _*_, _≤_, _<_}
-use mathlib.Core.Bool.{Bool, true, false, not, _&&_, _||_}
+use mathlib.Core.Bool.{Bool, true, false, not, _&&_, _||_, and-false, or-assoc, or-comm, or-false}
 use mathlib.Core.List.{List, [], _∷_, _++_, map, reverse, reverse-cons}
 use mathlib.Core.Path.{_≡_, refl, sym, ap, subst, _∙_}
 use native.Mathlib.Nat.{zero-add, suc-add}
@@ -16,6 +16,7 @@ use Rattle.rules.specs.Items.{Item, Staff, cutBy, byFours, readItems, readStaff
 use Rattle.rules.specs.ProofReader.{voiceTimed, Played, heardAfter, played}
 use Rattle.rules.specs.ProofReaderTests.{noteFound?, right?}
 use Rattle.laws.specs.Sort.{count}
+use Rattle.laws.proofs.Tests.{every-map}
 use Rattle.proofread_notes.specs.Columns.{rawAt, snapAt, notesAt, Same, Marks, hears?, found?, allFound?}
 use Rattle.proofread_notes.proofs.Areas.{same-self, same-then, notes-same}
 use Rattle.proofread_voices.specs.Voices.{voiceRun, silent, voiceOk?, ReadsVoice}
@@ -23,11 +24,11 @@ use Rattle.proofread_voices.proofs.BarItems.{four-cut}
 use Rattle.proofread_staff.specs.Staffs.{rawsAt}
 use Rattle.proofread_staff.proofs.Hearing.{voice-chords}
 use Rattle.proofread_staff.proofs.Points.{Fours, right-by-voices}
-use Rattle.proofread_staff.proofs.Shuffles.{and-false, or-assoc, or-comm, or-none}
 
 -- ---- four voices a bar
 
-fours : (k : ℕ) (cs : List ℕ) (xs : List Item) → length cs ≡ 4 * k → (length (byFours (cutBy cs xs)) ≡ k) × All (λ (bar : List (List Item)). length bar ≡ 4) (byFours (cutBy cs xs))
+fours : (k : ℕ) (cs : List ℕ) (xs : List Item) → length cs ≡ 4 * k
+    → (length (byFours (cutBy cs xs)) ≡ k) × All (λ (bar : List (List Item)). length bar ≡ 4) (byFours (cutBy cs xs))
 unfolding byFours cutBy
 fours zero [] xs h = (refl, tt)
 fours zero (c ∷ cs) xs h = absurd (omega arith)
@@ -35,7 +36,8 @@ fours (suc k) cs xs h =
     let more = fours k (drop 4 cs) (drop (sum (take 4 cs)) xs) (simp length-drop (omega arith)) in
     rw (four-cut cs xs (omega arith)) (ap suc (more .0), (refl, more .1))
 
-pub fours-read : (bs : List Bar) (counts hs ks : List ℕ) → length counts ≡ 4 * length bs → Fours bs (readStaff (record { counts = counts; heads = hs; keys = ks }))
+pub fours-read : (bs : List Bar) (counts hs ks : List ℕ) → length counts ≡ 4 * length bs
+    → Fours bs (readStaff (record { counts = counts; heads = hs; keys = ks }))
 fours-read bs counts hs ks h = let x = fours (length bs) counts (readItems hs ks) h in record { same = x .0; four = x .1 }
 
 -- ---- notes found
@@ -50,7 +52,7 @@ unfolding any
 any-reverse f [] = refl
 any-reverse f (x ∷ xs) =
     ap (any f) (reverse-cons x xs) ∙ any-append f (reverse xs) (x ∷ [])
-    ∙ (λ i. any-reverse f xs i || or-none (f x) i) ∙ or-comm (any f xs) (f x)
+    ∙ (λ i. any-reverse f xs i || or-false (f x) i) ∙ or-comm (any f xs) (f x)
 
 four-or : (a b c d : Bool) → (d || (c || (b || (a || false)))) ≡ (a || (b || (c || (d || false))))
 four-or true true true true = refl
@@ -87,11 +89,6 @@ module _ (p : ℕ) (bs : List Bar) (st : Staff) where
       ∙ four-or (any f (h 0)) (any f (h 1)) (any f (h 2)) (any f (h 3))
       ∙ sym (λ i. any-reverse f (h 0) i || (any-reverse f (h 1) i || (any-reverse f (h 2) i || (any-reverse f (h 3) i || false))))
 
-every-map : {A B : Type 0} (f : B → Bool) (h : A → B) (xs : List A) → every f (map h xs) ≡ every (λ x. f (h x)) xs
-unfolding every
-every-map f h [] = refl
-every-map f h (x ∷ xs) = ap (λ (b : Bool). f (h x) && b) (every-map f h xs)
-
 every-count : (f g : ℕ → Bool) (k a : ℕ) → ((j : ℕ) → a ≤ j → j < a + k → f j ≡ g j) → every f (count a k) ≡ every g (count a k)
 unfolding every count
 every-count f g zero a h = refl
@@ -107,7 +104,9 @@ pub found-is : (p : ℕ) (bs : List Bar) (st : Staff) (g n m e : ℕ) (w : List 
 found-is p bs st g n m e w k =
     every-count (found? g n e w) (λ i. noteFound? e (played p bs st) (snapAt g n w i)) m 0
     (λ j a b. ap (λ (x : Bool). not (ltb (snapAt g n w j .start) e) || x)
-    (ap (λ (x : ℕ). eqb x 1) (k .mark j (omega arith)) ∙ flag-is (any (hears? (snapAt g n w j)) (chordsUpTo p bs st 4)) ∙ heard-anywhere p bs st (hears? (snapAt g n w j))))
+    (ap (λ (x : ℕ). eqb x 1) (k .mark j (omega arith))
+    ∙ flag-is (any (hears? (snapAt g n w j)) (chordsUpTo p bs st 4))
+    ∙ heard-anywhere p bs st (hears? (snapAt g n w j))))
     ∙ sym (every-map (noteFound? e (played p bs st)) (snapAt g n w) (count 0 m))
 
 pub notes-snapped : (g n m : ℕ) (w : List ℕ) → notesAt g n m w ≡ map (snapped g) (rawsAt n m w)

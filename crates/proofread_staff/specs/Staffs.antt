@@ -8,9 +8,8 @@ use lib.ListN.{length}
 use Rattle.rules.specs.Lists.{every, sum}
 use Rattle.rules.specs.RawNotes.{RawNote}
 use Rattle.rules.specs.Bars.{Bar, lastBarEnd}
-use Rattle.rules.specs.Grid.{grid}
 use Rattle.rules.specs.Items.{StaffArrays, headLimit}
-use Rattle.rules.specs.ProofReaderTests.{verdict, even?}
+use Rattle.rules.specs.ProofReaderTests.{verdictOn, even?}
 use Rattle.rules.specs.Refusals.{Result, refused, given, unless, unevenPart}
 use Rattle.laws.specs.Sort.{count}
 use Rattle.proofread_notes.specs.Columns.{rawAt}
@@ -27,9 +26,10 @@ rawsAt n m w = map (rawAt n w) (count 0 m)
 abbrev pub withBar : Measured → ℕ → ℕ → ℕ → Measured
 withBar x len end u = record { bars = x .bars + 1; end = end; even = x .even && eqb (len % u) 0 }
 
-pub record Measures (bs : List Bar) (u : ℕ) (r : Measured) : Type 0 where
+-- the bars are measured, at most `limit` of them
+pub record Measures (limit : ℕ) (bs : List Bar) (u : ℕ) (r : Measured) : Type 0 where
   pub bars : r .bars ≡ length bs
-  pub few : r .bars ≤ 10000
+  pub few : r .bars ≤ limit
   pub end : r .end ≡ lastBarEnd bs
   pub even : r .even ≡ every (λ (b : Bar). eqb (b .len % u) 0) bs
 
@@ -52,6 +52,6 @@ answerOf Yes = given true
 answerOf No = given false
 answerOf Uneven = refused 9
 
--- Number 9 is asked before the staff is looked at.
-abbrev pub rightAnswer : ℕ → List RawNote → List Bar → StaffArrays → Result Bool
-rightAnswer p ns bs s = unless (unevenPart (even? p (grid p ns) bs) ∷ []) (verdict p ns bs s)
+-- Number 9 is asked before the staff is looked at; ns are the notes and g is their grid.
+abbrev pub answerOn : ℕ → ℕ → List RawNote → List Bar → StaffArrays → Result Bool
+answerOn p g ns bs s = unless (unevenPart (even? p g bs) ∷ []) (verdictOn p g ns bs s)

@@ -1,20 +1,18 @@
-// Section 8: the proof-reader. It goes by a part's raw notes and the bars alone, and works out the grid, snapping and values by itself.
+// Section 8: the proof-reader. It goes by raw notes, their grid and the bars alone, and works out the grid, snapping and values by itself.
 ghost use Prim.Native.Nat.{_*_, _≤_, _<_, max};
 ghost use mathlib.Core.Path.{_≡_};
 ghost use lib.ListN.{length};
-ghost use Rattle.rules.specs.Lists.{keep, flag};
-ghost use Rattle.rules.specs.Piece.{Event, isOn};
-ghost use Rattle.rules.specs.RawNotes.{rawNotes};
+ghost use Rattle.rules.specs.Lists.{flag};
 ghost use Rattle.rules.specs.Bars.{barsIn, mostBars, lastBarEnd};
 ghost use Rattle.rules.specs.Grid.{isOffGrid, offCount, grid};
 ghost use Rattle.rules.specs.Values.{smallest};
 ghost use Rattle.rules.specs.Items.{readStaff};
 ghost use Rattle.rules.specs.ProofReaderTests.{right?};
-ghost use Rattle.track_events.specs.Track.{Track, eventsOf};
+ghost use Rattle.track_events.specs.Track.{eventsOf};
 ghost use Rattle.bar_walk.specs.Walk.{CanWalk};
 ghost use Rattle.proofread_notes.specs.Columns.{Readable};
 ghost use Rattle.proofread_voices.specs.Voices.{Fits};
-ghost use Rattle.proofread_staff.specs.Staffs.{rawsAt, headsMean?, Shapes, withBar, Measures, answerOf, rightAnswer};
+ghost use Rattle.proofread_staff.specs.Staffs.{rawsAt, headsMean?, Shapes, withBar, Measures, answerOf, answerOn};
 
 // The bars: how many, the last one's end, and whether each length is a multiple of the smallest written value.
 pub struct Measured {
@@ -75,7 +73,7 @@ fn count_off(work: &[u64], n: usize, m: usize, p: u64) -> usize
 }
 
 // The grid: a thirty-second if more than a tenth of the notes are off, else a sixteenth.
-fn grid_of(work: &[u64], n: usize, m: usize, p: u64) -> u64
+pub fn grid_of(work: &[u64], n: usize, m: usize, p: u64) -> u64
     requires { ⌜ (m ≤ n) × (16 * n ≤ length (now work)) ⌝ }
     ensures { λ r. ⌜ r ≡ grid p (rawsAt n m (now (work .entry))) ⌝ }
 {
@@ -107,7 +105,7 @@ fn smallest_value(p: u64) -> u64
 
 // One bar more, of a length and an end.
 fn with_bar(x: Measured, len: u64, end: u64, u: u64) -> Measured
-    requires { ⌜ (0 < u) × (x .bars < 10000) ⌝ }
+    requires { ⌜ (0 < u) × (x .bars < mostBars) ⌝ }
     ensures { λ r. ⌜ r ≡ withBar x len end u ⌝ }
 {
     let mut r = x;
@@ -121,9 +119,9 @@ fn with_bar(x: Measured, len: u64, end: u64, u: u64) -> Measured
 }
 
 // Measures the bars.
-fn measure(p: u64, deltas: &[u32], words: &[u32], end: u64, u: u64) -> Measured
-    requires { ⌜ CanWalk (now deltas) (now words) p end × (0 < u) ⌝ }
-    ensures { λ r. ⌜ Measures (barsIn mostBars p (eventsOf (now (deltas .entry)) (now (words .entry))) end) u r ⌝ }
+fn measure(p: u64, deltas: &[u32], words: &[u32], end: u64, max_bars: usize, u: u64) -> Measured
+    requires { ⌜ CanWalk (now deltas) (now words) p end × («max_bars» ≤ mostBars) × (0 < u) ⌝ }
+    ensures { λ r. ⌜ Measures «max_bars» (barsIn «max_bars» p (eventsOf (now (deltas .entry)) (now (words .entry))) end) u r ⌝ }
 {
     let mut walker = bar_walk::first_bar(p, deltas, words);
     let mut x = Measured {
@@ -131,7 +129,7 @@ fn measure(p: u64, deltas: &[u32], words: &[u32], end: u64, u: u64) -> Measured
         end: 0,
         even: true,
     };
-    while x.bars < 10000 {
+    while x.bars < max_bars {
         let next = walker.next_bar();
         x = with_bar(x, next.start - walker.start, next.start, u);
         if end <= next.start {
@@ -160,7 +158,7 @@ fn heads_mean(heads: &[u32]) -> bool
 
 // Whether the arrays fit their counts, four a bar, and no head has a bit that has no meaning.
 fn shaped(counts: &[u32], heads: &[u32], keys: &[u64], bars: usize) -> bool
-    requires { ⌜ bars ≤ 10000 ⌝ }
+    requires { ⌜ bars ≤ mostBars ⌝ }
     ensures { λ r. ⌜ Shapes bars (now (counts .entry)) (now (heads .entry)) (now (keys .entry)) r ⌝ }
 {
     if counts.len() != 4 * bars {
@@ -184,6 +182,7 @@ fn read_staff(
     deltas: &[u32],
     words: &[u32],
     end: u64,
+    max_bars: usize,
     counts: &[u32],
     heads: &[u32],
     keys: &[u64],
@@ -194,9 +193,9 @@ fn read_staff(
     e: u64,
 ) -> bool
     requires { ⌜ Readable g n m (now work) × CanWalk (now deltas) (now words) p end
-        × Fits (barsIn mostBars p (eventsOf (now deltas) (now words)) end) (now counts) (now heads) (now keys)
-        × (e ≡ lastBarEnd (barsIn mostBars p (eventsOf (now deltas) (now words)) end)) ⌝ }
-    ensures { λ r. ⌜ r ≡ right? p g (rawsAt n m (now (work .entry))) (barsIn mostBars p (eventsOf (now (deltas .entry)) (now (words .entry))) end)
+        × Fits (barsIn «max_bars» p (eventsOf (now deltas) (now words)) end) (now counts) (now heads) (now keys)
+        × (e ≡ lastBarEnd (barsIn «max_bars» p (eventsOf (now deltas) (now words)) end)) ⌝ }
+    ensures { λ r. ⌜ r ≡ right? p g (rawsAt n m (now (work .entry))) (barsIn «max_bars» p (eventsOf (now (deltas .entry)) (now (words .entry))) end)
         (readStaff (record { counts = now (counts .entry); heads = now (heads .entry); keys = now (keys .entry) })) ⌝ }
 {
     proofread_notes::clear_marks(work, n, m);
@@ -207,6 +206,7 @@ fn read_staff(
             deltas,
             words,
             end,
+            max_bars,
             counts,
             heads,
             keys,
@@ -224,32 +224,29 @@ fn read_staff(
     proofread_notes::all_found(work, n, m, g, e)
 }
 
-// Reads a part's staff. The bars go by the first track and the end of the piece, the notes by the part's own track; n is at least the
-// number of its notes, and the work area has 16 columns of n words.
+// Reads a staff. The bars go by a track's changes up to an end tick, max_bars of them at most; the m notes stand in the work area, whose
+// columns have n words, on the grid g.
 pub fn read_part(
     p: u64,
-    bars_deltas: &[u32],
-    bars_words: &[u32],
-    end: u64,
     deltas: &[u32],
     words: &[u32],
+    end: u64,
+    max_bars: usize,
     counts: &[u32],
     heads: &[u32],
     keys: &[u64],
     work: &mut [u64],
     n: usize,
+    m: usize,
+    g: u64,
 ) -> Reading
-    requires { ⌜ CanWalk (now «bars_deltas») (now «bars_words») p end × (0 < p) × Track (now deltas) (now words)
-        × (length (keep (λ (e : Event). isOn (e .word)) (eventsOf (now deltas) (now words))) ≤ n)
-        × (16 * n ≤ length (now work)) ⌝ }
-    ensures { λ r. ⌜ answerOf r ≡ rightAnswer p (rawNotes (eventsOf (now (deltas .entry)) (now (words .entry))))
-        (barsIn mostBars p (eventsOf (now («bars_deltas» .entry)) (now («bars_words» .entry))) end)
+    requires { ⌜ CanWalk (now deltas) (now words) p end × (0 < p) × («max_bars» ≤ mostBars) × Readable g n m (now work) ⌝ }
+    ensures { λ r. ⌜ answerOf r ≡ answerOn p g (rawsAt n m (now (work .entry)))
+        (barsIn «max_bars» p (eventsOf (now (deltas .entry)) (now (words .entry))) end)
         (record { counts = now (counts .entry); heads = now (heads .entry); keys = now (keys .entry) }) ⌝ }
 {
-    let m = raw_notes::collect_raw_notes(deltas, words, work, n);
-    let g = grid_of(work, n, m, p);
     let u = smallest_value(p);
-    let x = measure(p, bars_deltas, bars_words, end, u);
+    let x = measure(p, deltas, words, end, max_bars, u);
     if g % u != 0 {
         return Reading::Uneven;
     }
@@ -261,9 +258,10 @@ pub fn read_part(
     }
     if read_staff(
         p,
-        bars_deltas,
-        bars_words,
+        deltas,
+        words,
         end,
+        max_bars,
         counts,
         heads,
         keys,

@@ -80,7 +80,3 @@ none-there hs ks first count h l =
 pub sum-start : (cs : List ℕ) → 0 ≡ sum (take 0 cs)
 unfolding sum
 sum-start cs = refl
-
-pub empty : {A : Type 0} (xs : List A) → length xs ≡ 0 → xs ≡ []
-empty [] e = refl
-empty (x ∷ xs) e = absurd (omega arith)

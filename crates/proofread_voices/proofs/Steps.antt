@@ -1,6 +1,6 @@
 -- One bar of a voice, and the voice's end.
 use Prim.Native.Nat.{ℕ, zero, suc, _+_, _≤_}
-use mathlib.Core.Bool.{Bool, true, false, cond, _&&_, true≢false}
+use mathlib.Core.Bool.{true, false, cond, and-false, true≢false}
 use mathlib.Core.List.{List, [], _∷_, map}
 use mathlib.Core.Logic.{inl, inr}
 use mathlib.Core.Path.{_≡_, refl, sym, ap, subst, _∙_}
@@ -17,12 +17,9 @@ use Rattle.proofread_notes.specs.declared.Chord.{Chord}
 use Rattle.proofread_notes.proofs.Areas.{same-self}
 use Rattle.proofread_items.specs.Playing.{Heard, run, tieOf, chordOf, heardOf, Closes, Holds, TakesAll}
 use Rattle.proofread_items.specs.declared.Voice.{Voice}
+use Rattle.proofread_items.proofs.Steps.{heard-is}
 use Rattle.laws.proofs.Order.{by-eq}
 use Rattle.proofread_voices.specs.Voices.{filled?, full?, ReadsBar, EndsVoice}
-
-and-false : (a : Bool) → (a && false) ≡ false
-and-false true = refl
-and-false false = refl
 
 -- the test at a bar's end is section 8's
 pub full-is : (p v : ℕ) (b : Bar) (is : List Item) → full? p v (b .start) (b .start + b .len) is ≡ filled? p v b is
@@ -59,11 +56,9 @@ full-reached p v start until is l h =
     others [] q = omega arith
     others (i ∷ is) q = let r = eqb-true (start + sum (map (itemTicks p) (i ∷ is))) until q in omega arith
 
-heard-is : {a b : Heard} → a .ok ≡ b .ok → a .tie ≡ b .tie → a .chord ≡ b .chord → a .closed ≡ b .closed → a ≡ b
-heard-is o t c l = λ i. record { ok = o i; tie = t i; chord = c i; closed = l i }
-
 -- `at` is the voice at the bar's start, s the same after its items
-module _ {g n m e p start : ℕ} (until v : ℕ) {is : List Item} {w w′ : List ℕ} (voice : Voice) {s : Voice} (at : Voice) (same : (cs : List Played) → heardOf at cs ≡ heardOf voice cs)
+module _ {g n m e p start : ℕ} (until v : ℕ) {is : List Item} {w w′ : List ℕ} (voice : Voice) {s : Voice} (at : Voice)
+    (same : (cs : List Played) → heardOf at cs ≡ heardOf voice cs)
     (tick : at .tick ≡ start) (t : TakesAll g n m e p is w w′ at s) where
   abbrev heard : List Played → Heard
   heard cs = run p e (notesAt g n m w) (heardOf voice cs) (timedFrom p start is)
@@ -84,7 +79,8 @@ module _ {g n m e p start : ℕ} (until v : ℕ) {is : List Item} {w w′ : List
       }
 
   -- r is s with the test at the bar's end
-  pub bar-full : {r : Voice} → start ≤ until → s .ok ≡ true → r .ok ≡ full? p v start until is → tieOf r ≡ tieOf s → chordOf r ≡ chordOf s → r .from ≡ s .from → r .chord ≡ s .chord → r .tick ≡ s .tick
+  pub bar-full : {r : Voice} → start ≤ until → s .ok ≡ true → r .ok ≡ full? p v start until is → tieOf r ≡ tieOf s → chordOf r ≡ chordOf s
+      → r .from ≡ s .from → r .chord ≡ s .chord → r .tick ≡ s .tick
       → ReadsBar g n m e p v start until is w w′ voice r
   bar-full {r} l ok o tie chord from last at-tick =
       let st : r .chord .start ≡ s .chord .start = ap (λ (x : Chord). x .start) last in

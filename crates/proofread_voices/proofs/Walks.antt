@@ -17,7 +17,7 @@ use Rattle.track_events.specs.Track.{eventsOf}
 use Rattle.bar_walk.specs.declared.Walker.{Walker}
 use Rattle.bar_walk.specs.Steps.{nextOf}
 use Rattle.bar_walk.specs.Walk.{trackMeter, firstWalker, AtBar, Settled}
-use Rattle.bar_walk.proofs.WalkLaws.{Walking, walking-start, walking-on, barOf, barsAhead, ahead-all, ahead-last, ahead-more, ahead-end}
+use Rattle.bar_walk.proofs.WalkLaws.{Walking, walking-start, walking-on, barOf, barsAhead, ahead-all, ahead-last, ahead-more, ahead-some, ahead-end}
 use Rattle.laws.proofs.BarLaws.{barAt, bars-last, bars-more}
 use Rattle.laws.proofs.Order.{by-lt}
 use Rattle.proofread_notes.specs.Columns.{notesAt, Same, Before, Marks}
@@ -26,7 +26,7 @@ use Rattle.proofread_items.specs.Playing.{Heard, lastOk?, closedWith, run, tieO
 use Rattle.proofread_items.specs.declared.Voice.{Voice}
 use Rattle.proofread_items.proofs.Reading.{run-failed}
 use Rattle.proofread_voices.specs.Voices.{withOk, voiceRun, silent, voiceOk?, full?, Fits, NewVoice, ReadsBar, EndsVoice, ReadsVoice}
-use Rattle.proofread_voices.proofs.BarItems.{four-cut, four-voice, sum-more, sum-next, sum-part, empty}
+use Rattle.proofread_voices.proofs.BarItems.{four-cut, four-voice, sum-more, sum-next, sum-part}
 use Rattle.proofread_voices.proofs.Steps.{full-is}
 
 -- ---- one bar, over plain lists
@@ -53,13 +53,15 @@ abbrev afterBar : ℕ → ℕ → List RawNote → ℕ → Heard → Bar → Lis
 afterBar p e ns v a b is = withOk (run p e ns a (timedFrom p (b .start) is)) (full? p v (b .start) (b .start + b .len) is)
 
 one-bar : (p e : ℕ) (ns : List RawNote) (v : ℕ) (a : Heard) (b : Bar) (bs : List Bar) (cs : List ℕ) (xs : List Item) → 4 ≤ length cs → v < 4
-    → voiceRun p e ns v a (b ∷ bs) (byFours (cutBy cs xs)) ≡ voiceRun p e ns v (afterBar p e ns v a b (itemsIn cs xs v)) bs (byFours (cutBy (drop 4 cs) (drop (sum (take 4 cs)) xs)))
+    → voiceRun p e ns v a (b ∷ bs) (byFours (cutBy cs xs))
+    ≡ voiceRun p e ns v (afterBar p e ns v a b (itemsIn cs xs v)) bs (byFours (cutBy (drop 4 cs) (drop (sum (take 4 cs)) xs)))
 unfolding voiceRun
 one-bar p e ns v a b bs cs xs h l =
     rw (four-cut cs xs h)
     (rw (four-voice cs xs v l, ← full-is p v b (itemsIn cs xs v)))
 
-module _ {g n m e p v : ℕ} {ns : List RawNote} {goal : Heard} {b : Bar} {bs : List Bar} (cs : List ℕ) (xs : List Item) {w w′ : List ℕ} {voice r : Voice} (h : 4 ≤ length cs) (l : v < 4)
+module _ {g n m e p v : ℕ} {ns : List RawNote} {goal : Heard} {b : Bar} {bs : List Bar} (cs : List ℕ) (xs : List Item) {w w′ : List ℕ} {voice r : Voice}
+    (h : 4 ≤ length cs) (l : v < 4)
     (known : notesAt g n m w ≡ ns) (now : Coming g n m e p v ns goal (b ∷ bs) (byFours (cutBy cs xs)) w voice)
     (read : ReadsBar g n m e p v (b .start) (b .start + b .len) (itemsIn cs xs v) w w′ voice r) where
   coming-fails : r .ok ≡ false → goal .ok ≡ false
@@ -82,7 +84,8 @@ module _ {g n m e p v : ℕ} {ns : List RawNote} {goal : Heard} {b : Bar} {bs : 
 -- ---- the walk
 
 -- the walker's bar is the first of those ahead
-first-ahead : {ds ws : List ℕ} {w : Walker} → AtBar ds ws w → (end : ℕ) {limit k : ℕ} → k < limit → (tail : List Bar) × (barsAhead ds ws end (limit - k) w ≡ barOf w ∷ tail)
+first-ahead : {ds ws : List ℕ} {w : Walker} → AtBar ds ws w → (end : ℕ) {limit k : ℕ} → k < limit
+    → (tail : List Bar) × (barsAhead ds ws end (limit - k) w ≡ barOf w ∷ tail)
 first-ahead {ds} {ws} {w} bar end {limit} {k} h =
     let q : limit - k ≡ suc (limit - suc k) = omega arith in
     let t : ℕ = w .start + barLength (w .p) (trackMeter ds ws (w .start)) in
@@ -90,7 +93,9 @@ first-ahead {ds} {ws} {w} bar end {limit} {k} h =
     elim (by-lt t end) [
       | inl o ↦ (
         barsFrom (limit - suc k) (w .p) (trackMeter ds ws) end t,
-        rw q (bars-more (limit - suc k) (w .p) (trackMeter ds ws) end (w .start) o ∙ ap (λ (b : Bar). b ∷ barsFrom (limit - suc k) (w .p) (trackMeter ds ws) end t) here),
+        rw q
+            (bars-more (limit - suc k) (w .p) (trackMeter ds ws) end (w .start) o
+            ∙ ap (λ (b : Bar). b ∷ barsFrom (limit - suc k) (w .p) (trackMeter ds ws) end t) here),
       )
       | inr o ↦ ([], rw q (bars-last (limit - suc k) (w .p) (trackMeter ds ws) end (w .start) o ∙ ap (λ (b : Bar). b ∷ []) here))
     ]
@@ -133,7 +138,8 @@ module _ (ds ws : List ℕ) (p end limit : ℕ) (counts hs ks : List ℕ) (g n m
         → Coming g n m e p v (notesAt g n m w₀) (heardBy ds ws p end limit counts hs ks e (notesAt g n m w₀) v cs) [] [] w voice
 
 module _ {ds ws : List ℕ} {p end limit : ℕ} {counts hs ks : List ℕ} {g n m e v : ℕ} {w₀ : List ℕ} where
-  pub along-start : {walker : Walker} {voice : Voice} → Fits (barsIn limit p (eventsOf ds ws) end) counts hs ks → Settled ds ws (firstWalker ds ws p) walker → NewVoice voice
+  pub along-start : {walker : Walker} {voice : Voice} → Fits (barsIn limit p (eventsOf ds ws) end) counts hs ks
+      → Settled ds ws (firstWalker ds ws p) walker → NewVoice voice
       → Along ds ws p end limit counts hs ks g n m e v w₀ walker 0 0 w₀ voice
   unfolding sum
   along-start {walker} {voice} fits s new =
@@ -151,8 +157,9 @@ module _ {ds ws : List ℕ} {p end limit : ℕ} {counts hs ks : List ℕ} {g n m
         hears = λ cs c. record { closed = cs; marks = c; same = rw (new .is cs, all) };
       }
 
-  module _ {walker : Walker} {bar first : ℕ} {w : List ℕ} {voice : Voice} (now : Along ds ws p end limit counts hs ks g n m e v w₀ walker bar first w voice) where
-    pub along-end : length counts ≤ 4 * bar → Past ds ws p end limit counts hs ks g n m e v w₀ w voice
+  module _ {walker : Walker} {bar first : ℕ} {w : List ℕ} {voice : Voice}
+      (now : Along ds ws p end limit counts hs ks g n m e v w₀ walker bar first w voice) where
+    pub along-end : limit ≤ bar → Past ds ws p end limit counts hs ks g n m e v w₀ w voice
     unfolding voiceRun
     along-end h =
         record {
@@ -164,29 +171,32 @@ module _ {ds ws : List ℕ} {p end limit : ℕ} {counts hs ks : List ℕ} {g n m
           hears =
               λ cs c.
               let x = now .hears cs c in
-              record { closed = x .closed; marks = x .marks; same = rw (none (omega (arith, now .counted))) at (x .same) };
+              record { closed = x .closed; marks = x .marks; same = rw (ahead-end ds ws walker end h) at (x .same) };
         }
-      where
-        none : length (barsAhead ds ws end (limit - bar) walker) ≡ 0 → barsAhead ds ws end (limit - bar) walker ≡ []
-        none e = empty (barsAhead ds ws end (limit - bar) walker) e
 
-    module _ (more : 4 * bar < length counts) where
-      pub some-left : bar < limit
-      some-left = elim (by-lt bar limit) [ inl l ↦ l | inr l ↦ absurd (omega (arith, now .counted, ap length (ahead-end ds ws walker end l))) ]
-
+    module _ (some-left : bar < limit) where
       pub four-left : 4 * bar + 4 ≤ length counts
-      four-left = omega (arith, now .counted)
+      four-left = omega (arith, now .counted, ahead-some (now .walking .bar) end some-left)
 
       -- the items of the voice in the bar lie in the arrays
-      pub items-fit : Fits (barsIn limit p (eventsOf ds ws) end) counts hs ks → v < 4 → first + sum (take v (drop (4 * bar) counts)) + getD counts (4 * bar + v) 0 ≤ length hs
+      pub items-fit : Fits (barsIn limit p (eventsOf ds ws) end) counts hs ks → v < 4
+          → first + sum (take v (drop (4 * bar) counts)) + getD counts (4 * bar + v) 0 ≤ length hs
       items-fit fits l =
-          omega (arith, now .passed, sum-next counts (4 * bar) (v + 1), sum-more counts (4 * bar) v (omega (arith, four-left)), sum-part counts (4 * bar + (v + 1)), fits .heads-fit)
+          omega (
+            arith,
+            now .passed,
+            sum-next counts (4 * bar) (v + 1),
+            sum-more counts (4 * bar) v (omega (arith, four-left)),
+            sum-part counts (4 * bar + (v + 1)),
+            fits .heads-fit,
+          )
 
       pub four-fit : Fits (barsIn limit p (eventsOf ds ws) end) counts hs ks → first + sum (take 4 (drop (4 * bar) counts)) ≤ length hs
       four-fit fits = omega (arith, now .passed, sum-next counts (4 * bar) 4, sum-part counts (4 * bar + 4), fits .heads-fit)
 
       module _ {w′ : List ℕ} {r : Voice} (room : m ≤ n) (l : v < 4)
-          (read : ReadsBar g n m e p v (walker .start) (nextOf walker .start) (take (getD counts (4 * bar + v) 0) (drop (first + sum (take v (drop (4 * bar) counts))) (readItems hs ks))) w w′ voice r) where
+          (read : ReadsBar g n m e p v (walker .start) (nextOf walker .start)
+          (take (getD counts (4 * bar + v) 0) (drop (first + sum (take v (drop (4 * bar) counts))) (readItems hs ks))) w w′ voice r) where
         is-here : take (getD counts (4 * bar + v) 0) (drop (first + sum (take v (drop (4 * bar) counts))) (readItems hs ks))
             ≡ itemsIn (drop (4 * bar) counts) (drop first (readItems hs ks)) v
         is-here = rw (getD-drop, drop-drop)
@@ -206,9 +216,11 @@ module _ {ds ws : List ℕ} {p end limit : ℕ} {counts hs ks : List ℕ} {g n m
 
         -- what was to come, its first bar named
         first-here : (tail : List Bar) → barsAhead ds ws end (limit - bar) walker ≡ barOf walker ∷ tail → (cs : List Played) → Marks g n m w₀ cs
-            → Coming g n m e p v (notesAt g n m w₀) (heardBy ds ws p end limit counts hs ks e (notesAt g n m w₀) v cs) (barOf walker ∷ tail) (staffFrom counts hs ks bar first) w voice
+            → Coming g n m e p v (notesAt g n m w₀) (heardBy ds ws p end limit counts hs ks e (notesAt g n m w₀) v cs) (barOf walker ∷ tail)
+            (staffFrom counts hs ks bar first) w voice
         first-here tail q cs c =
-            subst (λ (bs : List Bar). Coming g n m e p v (notesAt g n m w₀) (heardBy ds ws p end limit counts hs ks e (notesAt g n m w₀) v cs) bs (staffFrom counts hs ks bar first) w voice)
+            subst (λ (bs : List Bar). Coming g n m e p v (notesAt g n m w₀) (heardBy ds ws p end limit counts hs ks e (notesAt g n m w₀) v cs) bs
+            (staffFrom counts hs ks bar first) w voice)
             q (now .hears cs c)
 
         -- and what is to come after it
@@ -216,7 +228,9 @@ module _ {ds ws : List ℕ} {p end limit : ℕ} {counts hs ks : List ℕ} {g n m
             → Coming g n m e p v (notesAt g n m w₀) (heardBy ds ws p end limit counts hs ks e (notesAt g n m w₀) v cs) tail
             (staffFrom counts hs ks (bar + 1) (first + sum (take 4 (drop (4 * bar) counts)))) w′ r
         rest-here y tail q cs c =
-            subst (λ (st : Staff). Coming g n m e p v (notesAt g n m w₀) (heardBy ds ws p end limit counts hs ks e (notesAt g n m w₀) v cs) tail st w′ r) is-next
+            subst
+            (λ (st : Staff). Coming g n m e p v (notesAt g n m w₀) (heardBy ds ws p end limit counts hs ks e (notesAt g n m w₀) v cs) tail st w′ r)
+            is-next
             (coming-goes (drop (4 * bar) counts) (drop first (readItems hs ks)) four l known (first-here tail q cs c) read′ y)
 
         pub along-fails : r .ok ≡ false → ReadsVoice g n m e p v (barsIn limit p (eventsOf ds ws) end) (staffOf counts hs ks) w₀ w′ false
@@ -250,7 +264,9 @@ module _ {ds ws : List ℕ} {p end limit : ℕ} {counts hs ks : List ℕ} {g n m
             record {
               walking = walking-on (now .walking) s end small on;
               counted = omega (arith, now .counted, ap length step);
-              passed = let q : 4 * (bar + 1) ≡ 4 * bar + 4 = omega arith in rw q (sym (sum-next counts (4 * bar) 4 ∙ ap (λ (x : ℕ). x + sum (take 4 (drop (4 * bar) counts))) (sym (now .passed))));
+              passed =
+                  let q : 4 * (bar + 1) ≡ 4 * bar + 4 = omega arith in
+                  rw q (sym (sum-next counts (4 * bar) 4 ∙ ap (λ (x : ℕ). x + sum (take 4 (drop (4 * bar) counts))) (sym (now .passed))));
               ok = y;
               area = same-then (now .area) (read .same);
               within = read .within y;
@@ -264,11 +280,13 @@ module _ {ds ws : List ℕ} {p end limit : ℕ} {counts hs ks : List ℕ} {g n m
   past-paced x = record { within = x .within; before = x .before; reached = x .ticked }
 
   -- ---- the voice's end
-  module _ {w w′ : List ℕ} {voice : Voice} {r : Bool} (room : m ≤ n) (past : Past ds ws p end limit counts hs ks g n m e v w₀ w voice) (ends : EndsVoice g n m e w w′ voice r) where
+  module _ {w w′ : List ℕ} {voice : Voice} {r : Bool} (room : m ≤ n) (past : Past ds ws p end limit counts hs ks g n m e v w₀ w voice)
+      (ends : EndsVoice g n m e w w′ voice r) where
     known-end : notesAt g n m w ≡ notesAt g n m w₀
     known-end = notes-same (past .area) g m room
 
-    is-heard : (cs : List Played) (c : Marks g n m w₀ cs) → heardOf voice (past .hears cs c .closed) ≡ heardBy ds ws p end limit counts hs ks e (notesAt g n m w₀) v cs
+    is-heard : (cs : List Played) (c : Marks g n m w₀ cs)
+        → heardOf voice (past .hears cs c .closed) ≡ heardBy ds ws p end limit counts hs ks e (notesAt g n m w₀) v cs
     unfolding voiceRun
     is-heard cs c = past .hears cs c .same
 
@@ -281,9 +299,11 @@ module _ {ds ws : List ℕ} {p end limit : ℕ} {counts hs ks : List ℕ} {g n m
               rw known-end at (ends .ok) ∙ rw (past .ok) at (the-end cs c);
           marks =
               λ y cs c.
-              subst (λ (a : Heard). Marks g n m w′ (closedWith (a .chord) (a .closed))) (is-heard cs c) (ends .marks y (past .hears cs c .closed) (past .hears cs c .marks));
+              subst (λ (a : Heard). Marks g n m w′ (closedWith (a .chord) (a .closed))) (is-heard cs c)
+              (ends .marks y (past .hears cs c .closed) (past .hears cs c .marks));
         }
       where
         the-end : (cs : List Played) (c : Marks g n m w₀ cs)
-            → (voice .ok && freeAt? e (tieOf voice) && lastOk? e (notesAt g n m w₀) (chordOf voice) e) ≡ voiceOk? e (notesAt g n m w₀) (heardBy ds ws p end limit counts hs ks e (notesAt g n m w₀) v cs)
+            → (voice .ok && freeAt? e (tieOf voice) && lastOk? e (notesAt g n m w₀) (chordOf voice) e)
+            ≡ voiceOk? e (notesAt g n m w₀) (heardBy ds ws p end limit counts hs ks e (notesAt g n m w₀) v cs)
         the-end cs c = ap (voiceOk? e (notesAt g n m w₀)) (is-heard cs c)

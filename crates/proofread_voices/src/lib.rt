@@ -5,7 +5,7 @@ ghost use mathlib.Core.Path.{_≡_};
 ghost use lib.Dec.{eqb};
 ghost use lib.ListN.{length, take, drop};
 ghost use Rattle.rules.specs.Lists.{sum};
-ghost use Rattle.rules.specs.Bars.{barsIn, mostBars};
+ghost use Rattle.rules.specs.Bars.{barsIn};
 ghost use Rattle.rules.specs.Items.{readItems, readStaff};
 ghost use Rattle.rules.specs.ProofReaderTests.{freeAt?};
 ghost use Rattle.track_events.specs.Track.{eventsOf};
@@ -125,12 +125,13 @@ fn end_voice(work: &mut [u64], n: usize, m: usize, g: u64, e: u64, v: Voice) -> 
     false
 }
 
-// Reads voice v through all bars: the part's notes stand in the work area, e is the last bar's end.
+// Reads voice v through all bars: the notes stand in the work area, e is the last bar's end.
 pub fn read_voice(
     p: u64,
     deltas: &[u32],
     words: &[u32],
     end: u64,
+    max_bars: usize,
     counts: &[u32],
     heads: &[u32],
     keys: &[u64],
@@ -142,15 +143,15 @@ pub fn read_voice(
     v: usize,
 ) -> bool
     requires { ⌜ Readable g n m (now work) × CanWalk (now deltas) (now words) p end × (v < 4)
-        × Fits (barsIn mostBars p (eventsOf (now deltas) (now words)) end) (now counts) (now heads) (now keys) ⌝ }
-    ensures { λ r. ⌜ ReadsVoice g n m e p v (barsIn mostBars p (eventsOf (now (deltas .entry)) (now (words .entry))) end)
+        × Fits (barsIn «max_bars» p (eventsOf (now deltas) (now words)) end) (now counts) (now heads) (now keys) ⌝ }
+    ensures { λ r. ⌜ ReadsVoice g n m e p v (barsIn «max_bars» p (eventsOf (now (deltas .entry)) (now (words .entry))) end)
         (readStaff (record { counts = now (counts .entry); heads = now (heads .entry); keys = now (keys .entry) })) (now (work .entry)) (now (work .exit)) r ⌝ }
 {
     let mut walker = bar_walk::first_bar(p, deltas, words);
     let mut voice = new_voice();
     let mut bar = 0;
     let mut first = 0;
-    while 4 * bar < counts.len() {
+    while bar < max_bars {
         let next = walker.next_bar();
         let here = first + sum_counts(counts, 4 * bar, v);
         let count = counts[4 * bar + v] as usize;

@@ -36,7 +36,8 @@ gathering-none w n r =
 map-more : (f : ℕ → ℕ) (w : List ℕ) (i : ℕ) → i < length w → map f (take i w) ++ (f (getD w i 0) ∷ []) ≡ map f (take (i + 1) w)
 map-more f w i h = sym (rw (add-one, take-suc w i 0 h) (map-append f (take i w) (getD w i 0 ∷ [])))
 
-module _ {w₀ w : List ℕ} {n r i : ℕ} (room : r ≤ n) (area : 16 * n ≤ length w₀) (small : All (λ p. p < n) (take r w₀)) (p : Gathering w₀ w n r i) (more : i < r) where
+module _ {w₀ w : List ℕ} {n r i : ℕ} (room : r ≤ n) (area : 16 * n ≤ length w₀) (small : All (λ p. p < n) (take r w₀)) (p : Gathering w₀ w n r i)
+    (more : i < r) where
   pub place-small : getD w i 0 < n
   place-small =
       let s = All-get (λ p. p < n) (take r w₀) i 0 small (omega (arith, length-take-le r w₀ (omega arith))) in
@@ -139,8 +140,16 @@ module _ {w w′ w″ : List ℕ} {n r : ℕ} {l : List RawNote} (p : Listed n r
       record {
         count = p .count ∙ sym (length-sort byStart l) ∙ ap (λ (k : List RawNote). length (sortBy byStart k)) e;
         room = p .room;
-        ends = take-take r n w″ (p .room) ∙ g .ends ∙ column endWord (3 * n) refl (omega arith) (p .ends) ∙ ap (λ (k : List RawNote). map endWord (sortBy byStart k)) e;
-        starts = take-take r n (drop n w″) (p .room) ∙ g .starts ∙ column startWord (2 * n) refl (omega arith) (p .starts) ∙ ap (λ (k : List RawNote). map startWord (sortBy byStart k)) e;
+        ends =
+            take-take r n w″ (p .room)
+            ∙ g .ends
+            ∙ column endWord (3 * n) refl (omega arith) (p .ends)
+            ∙ ap (λ (k : List RawNote). map endWord (sortBy byStart k)) e;
+        starts =
+            take-take r n (drop n w″) (p .room)
+            ∙ g .starts
+            ∙ column startWord (2 * n) refl (omega arith) (p .starts)
+            ∙ ap (λ (k : List RawNote). map startWord (sortBy byStart k)) e;
       }
 
 pub collected : {h h′ t : List (List ℕ)} {v w w′ w″ : List ℕ} {n : ℕ} {es : List Event} {s : Seen} → PairedAll h t v es n s

@@ -47,7 +47,8 @@ part-front a n b w w′ h l k e = front w′ (omega arith) ∙ ap (part a n) e �
     front : (v : List ℕ) → b ≤ length v → part a n v ≡ part a n (take b v)
     front v i = ap (part a n) (sym (take-append-drop b v)) ∙ part-left (take b v) (drop b v) a n (omega (arith, length-take-le b v i))
 
-pub listed-kept : {w w′ : List ℕ} {n r : ℕ} {ns : List RawNote} → 16 * n ≤ length w → length w′ ≡ length w → FrontKept n w w′ → Listed n r w ns → Listed n r w′ ns
+pub listed-kept : {w w′ : List ℕ} {n r : ℕ} {ns : List RawNote} → 16 * n ≤ length w → length w′ ≡ length w → FrontKept n w w′ → Listed n r w ns
+    → Listed n r w′ ns
 listed-kept {w} {w′} {n} {r} a k e p =
     record {
       count = p .count;

@@ -3,9 +3,8 @@
 // The work area is columns of n words. Notes are put, as they close, into column 2 (start * 128 + key) and column 3 (end * 16 + channel);
 // pairing has columns 4 to 6. Their places are then sorted by start and key in column 0, with column 1 as room, and last the two
 // words of each note are brought to columns 0 (end) and 1 (start), in order.
-ghost use Prim.Native.Nat.{ℕ, _+_, _*_, _≤_, _<_, _^_, max};
+ghost use Prim.Native.Nat.{ℕ, _+_, _*_, _≤_, _<_, _^_};
 ghost use mathlib.Core.List.{List};
-ghost use mathlib.Core.Path.{_≡_};
 ghost use lib.ListN.{length, take};
 ghost use Rattle.rules.specs.Lists.{All, keep};
 ghost use Rattle.rules.specs.Piece.{Event, isOn};
@@ -22,24 +21,12 @@ pub struct Seen {
     pub notes: usize,
 }
 
-fn wide(x: u32) -> u64
-    ensures { λ r. ⌜ r ≡ x ⌝ }
-{
-    x as u64
-}
-
-fn larger(a: u64, b: u64) -> u64
-    ensures { λ r. ⌜ r ≡ max a b ⌝ }
-{
-    if a < b { b } else { a }
-}
-
 // Puts the note of a start that ends at a tick, at least start + 1, behind r notes.
 fn put_note(work: &mut [u64], n: usize, r: usize, start: u64, tick: u64, key: u64, channel: u64)
     requires { ⌜ (r < n) × (16 * n ≤ length (now work)) × (start < 2 ^ 47) × (tick < 2 ^ 47) × (key < 128) × (channel < 16) ⌝ }
     ensures { λ _. ⌜ NotePut (now (work .entry)) (now (work .exit)) n r (noteOf start tick key channel) ⌝ }
 {
-    let end = larger(tick, start + 1);
+    let end = basics::larger(tick, start + 1);
     work[2 * n + r] = start * 128 + key;
     work[3 * n + r] = end * 16 + channel;
 }
@@ -73,7 +60,15 @@ fn take_event(
         }
         Paired::Closed(start, _) => {
             let x = track_events::take_apart(w);
-            put_note(work, n, r, start, tick, wide(x.b), wide(x.a));
+            put_note(
+                work,
+                n,
+                r,
+                start,
+                tick,
+                basics::wide(x.b),
+                basics::wide(x.a),
+            );
             next.notes = r + 1;
             next
         }
@@ -100,7 +95,7 @@ fn pair_track(
     };
     let mut i = 0;
     while i < deltas.len() {
-        let tick = s.tick + wide(deltas[i]);
+        let tick = s.tick + basics::wide(deltas[i]);
         s = take_event(heads, tails, work, n, s, tick, i, words[i]);
         i += 1;
     }

@@ -4,11 +4,11 @@ use automation_events::Counts;
 use bars::BarsAnswer;
 use changes::Head;
 use diagnostics::DiagnosticsAnswer;
-use engraver::StaffAnswer;
 use heads::HeadAnswer;
 use heads::PartCountAnswer;
 use heads::PartHeadAnswer;
 use replayed::Asked;
+use staffs::StaffAnswer;
 
 // Fifths + 8, or 0 where they are out of the range of a key.
 fn fifths_code(fifths: i32) -> u64 {

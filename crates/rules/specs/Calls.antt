@@ -6,7 +6,8 @@ use mathlib.Core.List.{List, [], _∷_, _++_, map}
 use mathlib.Core.Path.{_≡_}
 use lib.ListN.{length, getD}
 use Rattle.rules.specs.Lists.{written, cleared}
-use Rattle.rules.specs.Refusals.{Result, Refusal, unless, answers, writes, pieceRefusals, noteRefusals, partRefusals, shortWork, shortOutput, unevenPart, badCode, badDots, badKey}
+use Rattle.rules.specs.Refusals.{Result, Refusal, unless, answers, writes, pieceRefusals, noteRefusals, partRefusals}
+use Rattle.rules.specs.Refusals.{shortWork, shortOutput, unevenPart, badCode, badDots, badKey}
 use Rattle.rules.specs.Piece.{Piece, Event, ticksPerQuarter}
 use Rattle.rules.specs.RawNotes.{RawNote, rawNotes, parts}
 use Rattle.rules.specs.Changes.{Head, head, PartHead, partHead}

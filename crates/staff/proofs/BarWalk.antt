@@ -21,7 +21,7 @@ use Rattle.items.proofs.Putting.{put-none, put-length, put-append}
 use Rattle.items.proofs.Appending.{Going, going-start, going-room, going-more, going-done, going-heads, going-keys}
 use Rattle.staff.specs.declared.Engraving.{Engraving}
 use Rattle.staff.specs.declared.Reached.{Reached}
-use Rattle.staff.specs.Voices.{voiceOf}
+use Rattle.bar_voice.specs.Voices.{voiceOf}
 use Rattle.staff.specs.Bars.{CanCount, Counted, barVoice, barVoices, AllPast, CanPush, BarPut}
 
 -- one word, written or not

@@ -19,9 +19,9 @@ use Rattle.laws.specs.Lines.{Line}
 use Rattle.laws.specs.Sort.{count}
 use Rattle.laws.proofs.Lists.{All-map, All-keep, All-all}
 use Rattle.laws.proofs.Order.{by-lt}
-use Rattle.staff.specs.Voices.{voiceOf, Skipped}
+use Rattle.bar_voice.specs.Voices.{voiceOf, Skipped}
 use Rattle.staff.specs.Bars.{voicesOf, VoicesHeld, barVoice, barVoices}
-use Rattle.staff.proofs.Few.{voice-few}
+use Rattle.bar_voice.proofs.Few.{voice-few}
 
 -- ---- one bar more
 

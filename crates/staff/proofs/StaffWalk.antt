@@ -22,10 +22,10 @@ use Rattle.items.specs.Writing.{Room, Items}
 use Rattle.items.proofs.Putting.{put-none, put-length, put-append}
 use Rattle.items.proofs.Appending.{keys-length, items-none, items-append, heads-kept, keys-kept}
 use Rattle.staff.specs.declared.Engraving.{Engraving}
-use Rattle.staff.specs.Voices.{voiceOf}
+use Rattle.bar_voice.specs.Voices.{voiceOf}
 use Rattle.staff.specs.Bars.{voicesOf, VoicesHeld, barVoices, AllPast, CanPush, BarPut}
 use Rattle.staff.specs.Staffs.{barsOf, StaffRoom, StaffPut}
-use Rattle.staff.proofs.VoiceWalk.{past-later, past-none}
+use Rattle.bar_voice.proofs.VoiceWalk.{past-later, past-none}
 use Rattle.staff.proofs.StaffSizes.{counts-length, bar-voices, counts-more, items-more, voices-part, items-part, bar-few, meter-small, bar-short}
 
 -- the walker's bar, from its start to its end

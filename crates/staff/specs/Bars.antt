@@ -13,11 +13,12 @@ use Rattle.items.specs.Putting.{Put}
 use Rattle.items.specs.Writing.{Items, Room}
 use Rattle.staff.specs.declared.Engraving.{Engraving}
 use Rattle.staff.specs.declared.Reached.{Reached}
-use Rattle.staff.specs.Voices.{voiceOf, VoiceHeld, Past, voiceFrom}
+use Rattle.bar_voice.specs.Voices.{voiceOf, VoiceHeld, Past, voiceFrom}
 
 -- ---- one voice
 
-pub record CanCount (write : Bool) (p : ℕ) (isFirst : Bool) (cs : List Chord) (next : ℕ) (bar : Measure) (place from : ℕ) (counts heads keys : List ℕ) : Type 0 where
+pub record CanCount (write : Bool) (p : ℕ) (isFirst : Bool) (cs : List Chord) (next : ℕ) (bar : Measure) (place from : ℕ) (counts heads keys : List ℕ) :
+    Type 0 where
   pub some-bar : bar .start < bar .end
   pub short : bar .end - bar .start < 2 ^ 32
   pub past : Past (bar .start) cs next

@@ -106,7 +106,22 @@ module _ (w : ℕ) (x : Word) (is : IsWord w x) where
   high-word l h =
       sym
       (formed
-      ∙ rw (not-at 0 (omega arith), not-at 1 (omega arith), not-at 2 (omega arith), not-at 3 (omega arith), not-at 4 (omega arith), not-at 5 (omega arith), not-at 6 (omega arith), not-at 8 (omega arith), not-at 9 (omega arith), not-at 10 (omega arith), not-at 11 (omega arith), not-at 12 (omega arith), not-at 13 (omega arith), ne-eqb (x .kind) 14 h))
+      ∙ rw (
+        not-at 0 (omega arith),
+        not-at 1 (omega arith),
+        not-at 2 (omega arith),
+        not-at 3 (omega arith),
+        not-at 4 (omega arith),
+        not-at 5 (omega arith),
+        not-at 6 (omega arith),
+        not-at 8 (omega arith),
+        not-at 9 (omega arith),
+        not-at 10 (omega arith),
+        not-at 11 (omega arith),
+        not-at 12 (omega arith),
+        not-at 13 (omega arith),
+        ne-eqb (x .kind) 14 h,
+      ))
     where
       not-at : (k : ℕ) → k < 14 → eqb (x .kind) k ≡ false
       not-at k h = ne-eqb (x .kind) k (λ e. omega arith)

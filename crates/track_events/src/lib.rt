@@ -3,7 +3,7 @@ ghost use mathlib.Core.Path.{_≡_};
 ghost use mathlib.Core.Bool.{_&&_};
 ghost use lib.Dec.{leb};
 ghost use lib.ListN.{length};
-ghost use Prim.Native.Nat.{_≤_};
+ghost use Prim.Native.Nat.{_+_, _≤_, _<_};
 ghost use Rattle.rules.specs.Piece.{kindOf, byteA, byteB, wellFormed, isOn, isOff, tempoValue};
 ghost use Rattle.track_events.specs.Track.{IsWord, stretch};
 
@@ -106,4 +106,12 @@ pub fn cut(s: &[u32], from: usize, to: usize) -> &[u32]
     ensures { λ r. ⌜ now r ≡ stretch from to (now (s .entry)) ⌝ }
 {
     &s[from..to]
+}
+
+// The end of the block of events that begins at i: long pieces are looked through block by block.
+pub fn block_end(i: usize, len: usize) -> usize
+    requires { ⌜ i < len ⌝ }
+    ensures { λ r. ⌜ (i < r) × (r ≤ len) × (r ≤ i + 256) ⌝ }
+{
+    if len - i < 256 { len } else { i + 256 }
 }

@@ -5,7 +5,7 @@ use mathlib.Core.List.{List, _++_, map}
 use mathlib.Core.Path.{_≡_}
 use lib.ListN.{length}
 use Rattle.rules.specs.Lists.{All, keep, sortBy, flag}
-use Rattle.rules.specs.Piece.{Event, wellFormed, isOn}
+use Rattle.rules.specs.Piece.{Event, largestSize, wellFormed, isOn}
 use Rattle.rules.specs.RawNotes.{NoteEvent, Pairing, noteEvents, pairing, byChannel}
 use Rattle.rules.specs.Diagnostics.{unmatchedOff, unmatchedOn}
 use Rattle.track_events.specs.Track.{Track, eventsOf}
@@ -35,7 +35,7 @@ pub record Turn (h t : List (List ℕ)) (w : List ℕ) (n track : ℕ) (s : Seen
   pub room : isOn word ≡ true → s .starts < n
   pub few : s .starts + 1 < 2 ^ 32
   pub next : s .next + s .waiting < 2 ^ 32
-  pub numbered : track ≤ 65535
+  pub numbered : track ≤ largestSize
 
 -- the offs that are new without on are put
 pub record Turned (h t : List (List ℕ)) (w : List ℕ) (n track : ℕ) (x : Pairing) (e : Event)
@@ -56,7 +56,7 @@ pub record Fresh (h t : List (List ℕ)) (w ds ws : List ℕ) (n track at : ℕ)
   pub tails : Grid t
   pub area : 16 * n ≤ length w
   pub ons : length (keep (λ (e : Event). isOn (e .word)) (eventsOf ds ws)) ≤ n
-  pub numbered : track ≤ 65535
+  pub numbered : track ≤ largestSize
   pub room : at + length ds < 2 ^ 32
 
 pub record PairedAll (h t : List (List ℕ)) (w ds ws : List ℕ) (n track at : ℕ) (places₀ details₀ : List ℕ) (s : Seen) (places₁ details₁ : List ℕ)
@@ -71,7 +71,7 @@ pub record Waits (h : List (List ℕ)) (w : List ℕ) (n waiting track at : ℕ)
   pub count : ℕ
   pub x : Pairing
   pub pairs : Pairs h tails w n count waiting x
-  pub numbered : track ≤ 65535
+  pub numbered : track ≤ largestSize
   pub room : at + waiting < 2 ^ 32
 
 pub record AllTaken (h : List (List ℕ)) (track : ℕ) (x : Pairing) (at : ℕ) (places₀ details₀ : List ℕ) (r : ℕ) (places₁ details₁ : List ℕ) : Type 0 where

@@ -41,12 +41,6 @@ fn unmatched_on(track: u64, u: Unclosed) -> Diagnostic
     }
 }
 
-fn wide(x: u32) -> u64
-    ensures { λ r. ⌜ r ≡ x ⌝ }
-{
-    x as u64
-}
-
 // What was seen of a track: the tick reached, the starts that came, those that wait, and where the next diagnostic goes.
 struct Seen {
     tick: u64,
@@ -93,7 +87,7 @@ fn take_event(
             seen
         }
         Paired::Unmatched => {
-            let channel = wide(track_events::byte_a(w));
+            let channel = basics::wide(track_events::byte_a(w));
             let d = unmatched_off(track, i as u64, tick, channel);
             seen.next = findings::put(places, details, at, d);
             seen
@@ -126,7 +120,7 @@ fn pair_track(
     };
     let mut i = 0;
     while i < deltas.len() {
-        let tick = s.tick + wide(deltas[i]);
+        let tick = s.tick + basics::wide(deltas[i]);
         s = take_event(
             heads,
             tails,

@@ -1,23 +1,22 @@
 -- A table of lengths read as values, entry by entry: to split a span by those from entry 0 on is section 6's split.
 use Prim.Native.Nat.{ℕ, _+_, _-_, _/_, _%_, _<_, _≤_}
 use mathlib.Core.Bool.{Bool, true, false, cond, _&&_}
-use mathlib.Core.List.{List, [], _∷_, _++_, flatMap, map, head?}
+use mathlib.Core.List.{List, [], _∷_, _++_, flatMap, map}
 use mathlib.Core.Logic.{inl, inr}
-use mathlib.Core.Option.{Option, none, some}
+use mathlib.Core.Option.{none}
 use mathlib.Core.Path.{_≡_, refl, sym, ap, _∙_}
 use native.Mathlib.Nat.{div-zero, mod-zero, div-add-mod', le-mul-of-pos-right}
 use native.Mathlib.Omega.{arith}
 use borrow.Author.Tests.{leb-true, leb-false, lt-ltb, le-ltb}
 use lib.Dec.{ltb, leb}
 use lib.ListN.{length, getD, replicate, length-append, length-replicate}
-use Rattle.rules.specs.Lists.{keep, All}
-use Rattle.rules.specs.Values.{Value, value, values, isWhole, staffCodes, longest, splitSpan}
+use Rattle.rules.specs.Lists.{keep}
+use Rattle.rules.specs.Values.{Value, value, values, isWhole, staffCodes, splitSpan}
 use Rattle.laws.specs.Ladder.{split}
 use Rattle.laws.specs.Sort.{count}
 use Rattle.laws.proofs.Order.{by-bool, by-lt}
 use Rattle.laws.proofs.Sort.{count-none, count-cons}
 use Rattle.laws.proofs.Splits.{split-zero, split-literal, split-fits, split-over}
-use Rattle.laws.proofs.Values.{values-long}
 use Rattle.values.specs.Table.{tableOf, entry}
 
 -- the pieces of t ticks by the entries from i on
@@ -85,46 +84,6 @@ module _ (p : ℕ) where
   unfolding coming count tableOf values flatMap whole listed
   table-split t h =
       split-listed (flatMap (λ c. value p c 1 ∷ value p c 0 ∷ []) staffCodes) t ∙ sym (split-literal p t h)
-
--- The first entry from i on that fits.
-abbrev fitting : ℕ → Value → Bool
-fitting t v = ltb 0 (v .ticks) && leb (v .ticks) t
-
-unfoldable pub firstFit : List ℕ → ℕ → ℕ → Option Value
-firstFit table i t = head? (keep (fitting t) (map (entry table) (count i (18 - i))))
-
-module _ (table : List ℕ) (i t : ℕ) where
-  pub first-end : 18 ≤ i → firstFit table i t ≡ none
-  unfolding firstFit keep
-  first-end h = rw (count-none i 18 h)
-
-  pub first-here : i < 18 → (ltb 0 (getD table i 0) && leb (getD table i 0) t) ≡ true → firstFit table i t ≡ some (entry table i)
-  unfolding firstFit keep
-  first-here h e = rw (count-cons i 18 h, e)
-
-  pub first-over : i < 18 → (ltb 0 (getD table i 0) && leb (getD table i 0) t) ≡ false → firstFit table i t ≡ firstFit table (i + 1) t
-  unfolding firstFit keep
-  first-over h e = rw (count-cons i 18 h, e)
-
-module _ (p : ℕ) where
-  keep-listed : (vs : List Value) (t : ℕ) → All (λ (v : Value). 0 < v .ticks) (keep (whole p) vs)
-      → keep (fitting t) (map (listed p) vs) ≡ keep (λ (v : Value). leb (v .ticks) t) (keep (whole p) vs)
-  unfolding keep listed
-  keep-listed [] t h = refl
-  keep-listed (v ∷ vs) t h =
-      elim (by-bool (whole p v)) [
-        | inl e ↦
-            let k : (0 < v .ticks) × All (λ (w : Value). 0 < w .ticks) (keep (whole p) vs) = rw e at h in
-            rw (e, lt-ltb 0 (v .ticks) (k .0)) (go (leb (v .ticks) t) (keep-listed vs t (k .1)))
-        | inr e ↦ rw e (keep-listed vs t (rw e at h))
-      ]
-    where
-      go : (b : Bool) {ws us : List Value} → ws ≡ us → cond b (v ∷ ws) ws ≡ cond b (v ∷ us) us
-      go b e = ap (λ (l : List Value). cond b (v ∷ l) l) e
-
-  pub table-first : (t : ℕ) → 0 < p → firstFit (tableOf p) 0 t ≡ longest p t
-  unfolding firstFit count tableOf values flatMap whole listed
-  table-first t h = ap head? (keep-listed (flatMap (λ c. value p c 1 ∷ value p c 0 ∷ []) staffCodes) t (values-long p h))
 
 -- Of the pieces of t ticks n are counted, and the ticks left go to the entries from i on.
 pub record Counted (table : List ℕ) (t n left i : ℕ) : Type 0 where

@@ -2,12 +2,9 @@
 use Prim.Native.Nat.{ℕ, _+_, _-_, _*_, _/_, _%_, _<_, _≤_}
 use mathlib.Core.Bool.{cond}
 use mathlib.Core.List.{List, [], _∷_, _++_, map, flatMap}
-use mathlib.Core.Option.{Option, none, some}
 use mathlib.Core.Path.{_≡_}
 use lib.ListN.{length, getD, take, drop}
 use Rattle.rules.specs.Values.{Value, ticksOf, isWhole, staffCodes, splitSpan}
-use Rattle.values.specs.declared.Fit.{Fit}
-use Rattle.values.specs.declared.Fit.the-variants.{Piece, Nothing}
 
 -- the ticks of code c with d dots; 0 where they are no whole number
 abbrev pub entryOf : ℕ → ℕ → ℕ → ℕ
@@ -20,15 +17,6 @@ tableOf p = flatMap (λ c. entryOf p c 1 ∷ entryOf p c 0 ∷ []) staffCodes
 -- Entry i of a table as a value.
 abbrev pub entry : List ℕ → ℕ → Value
 entry table i = record { code = i / 2; dots = 1 - i % 2; ticks = getD table i 0 }
-
--- What `longest_fit` answers: an entry of the table, and the value that it is.
-abbrev pub Listed : Fit → Type 0
-Listed (Piece i) = i < 18
-Listed Nothing = Unit {0}
-
-abbrev pub fitOf : List ℕ → Fit → Option Value
-fitOf table (Piece i) = some (entry table i)
-fitOf table Nothing = none
 
 -- A piece's code and dot as section 7's head has them, with the caller's bits.
 abbrev pub pieceWord : ℕ → Value → ℕ

@@ -4,8 +4,8 @@ ghost use mathlib.Core.Bool.{_&&_};
 ghost use mathlib.Core.Path.{_≡_};
 ghost use lib.Dec.{leb, ltb};
 ghost use lib.ListN.{length};
-ghost use Rattle.rules.specs.Values.{splitSpan, longest};
-ghost use Rattle.values.specs.Table.{entryOf, tableOf, Listed, fitOf, Room, Spanned};
+ghost use Rattle.rules.specs.Values.{splitSpan};
+ghost use Rattle.values.specs.Table.{entryOf, tableOf, Room, Spanned};
 
 fn power_of_two(k: u64) -> u64
     requires { ⌜ k < 64 ⌝ }
@@ -71,28 +71,7 @@ fn fits(length: u64, ticks: u64) -> bool
     0 < length && length <= ticks
 }
 
-// An entry of the table: code i / 2, with a dot where i is even.
-pub enum Fit {
-    Piece(usize),
-    Nothing,
-}
-
-// One step of a split: the longest value that fits.
-pub fn longest_fit(values: &[u64; 18], ticks: u64) -> Fit
-    ensures { λ r. ⌜ Listed r ⌝ }
-    ensures { λ r. ⌜ ((p : ℕ) → 0 < p → now (values .entry) ≡ tableOf p → fitOf (now (values .entry)) r ≡ longest p ticks) ⌝ }
-{
-    let mut i: usize = 0;
-    while i < 18 {
-        if fits(values[i], ticks) {
-            return Fit::Piece(i);
-        }
-        i += 1;
-    }
-    Fit::Nothing
-}
-
-// The word of entry i of the table: code, dot and the caller's bits.
+// The word of entry i of the table, code i / 2, with a dot where i is even: code, dot and the caller's bits.
 fn word(i: usize, bits: u32) -> u32
     requires { ⌜ (i < 18) × (bits < 2 ^ 16) ⌝ }
     ensures { λ r. ⌜ r ≡ i / 2 + (1 - i % 2) * 16 + bits ⌝ }

@@ -5,6 +5,7 @@ use mathlib.Core.Logic.{inl, inr}
 use native.Mathlib.Omega.{arith}
 use Rattle.rules.specs.Grid.{snapped}
 use Rattle.rules.specs.Lists.{any, All}
+use Rattle.rules.specs.Piece.{largestSize}
 use Rattle.rules.specs.RawNotes.{RawNote}
 use Rattle.rules.specs.Voices.{Chord, Voice, byFallingKey, sortedNotes, joins, joined, joinOrOpen, chords, giveKeys, cutTo, place, noVoices, voices}
 use Rattle.laws.specs.NoteWords.{InRange}
@@ -53,7 +54,8 @@ module _ (limit : ℕ) where
       (foldl-keeps joinOrOpen (All Small) SmallNote join-small (sortedNotes g ns) [] (All-sort byFallingKey SmallNote (map (snapped g) ns) h) tt) tt)
       (tt, (tt, (tt, (tt, tt)))))
 
-pub voices-small : (g : ℕ) (ns : List RawNote) → g ≤ 65535 → All (InRange (2 ^ 47)) ns → All (All (Small (2 ^ 48))) (voices g ns)
+pub voices-small : (g : ℕ) (ns : List RawNote) → g ≤ largestSize → All (InRange (2 ^ 47)) ns → All (All (Small (2 ^ 48))) (voices g ns)
 voices-small g ns l h =
     voices-within (2 ^ 48) g ns
-    (All-map (SmallNote (2 ^ 48)) (snapped g) (λ n (r : InRange (2 ^ 47) n). (omega (arith, snap-le g (n .start)), omega (arith, snap-le g (n .start), snap-le g (n .end)))) ns h)
+    (All-map (SmallNote (2 ^ 48)) (snapped g)
+    (λ n (r : InRange (2 ^ 47) n). (omega (arith, snap-le g (n .start)), omega (arith, snap-le g (n .start), snap-le g (n .end)))) ns h)

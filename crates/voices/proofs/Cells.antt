@@ -134,7 +134,14 @@ module _ {n k v start end : ℕ} {l r : Lasts} {w w′ : List ℕ} (cells : Cell
   unfolding len
   pushed-voices =
       upTo-set (voiceAt n w (l .lens)) (voiceAt n w′ (r .lens)) 4 v _ [] v4
-      (rw (len-here, down-more (λ j. chordAt n w′ (numberAt n w′ v j)) len, number-here, pushed-chord k next, voice-kept v v4 len (omega arith), upTo-get (voiceAt n w (l .lens)) 4 v [] v4))
+      (rw (
+        len-here,
+        down-more (λ j. chordAt n w′ (numberAt n w′ v j)) len,
+        number-here,
+        pushed-chord k next,
+        voice-kept v v4 len (omega arith),
+        upTo-get (voiceAt n w (l .lens)) 4 v [] v4,
+      ))
       (λ u h d. rw (len-there u d) (voice-kept u h (getD (l .lens) u 0) (omega arith)))
 
 -- ---- a voice's last chord is changed

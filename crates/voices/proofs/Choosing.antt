@@ -1,6 +1,6 @@
 -- What the code chooses from starts and ends is what the rules choose from the voices.
 use Prim.Native.Nat.{ℕ, _+_, _≤_, _<_}
-use mathlib.Core.Bool.{false, true≢false}
+use mathlib.Core.Bool.{Bool, true, false, true≢false}
 use mathlib.Core.List.{List, [], _∷_, map}
 use mathlib.Core.Path.{_≡_, refl, sym, ap, _∙_}
 use native.Mathlib.Nat.{le-refl}
@@ -14,7 +14,21 @@ use Rattle.rules.specs.Voices.{Chord, Voice, isFree, startsWith, voiceEnd, ends
 use Rattle.laws.proofs.Lists.{All-imp, All-all, any-none}
 use Rattle.voices.specs.Placing.{voiceStart, Known}
 use Rattle.voices.specs.declared.Lasts.{Lasts}
+use Rattle.laws.proofs.Tests.{Scanned, scanned-on, scanned-at, scanned-end}
 use Rattle.laws.proofs.Tests.{position-at, position-found, position-lost, position-agree, position-map, every-passes, every-fails, every-map}
+
+-- ---- the first of four voices that passes a test
+
+-- none of the first v passes
+module _ {f : ℕ → Bool} {l : List ℕ} {v : ℕ} (inv : (length l ≡ 4) × Scanned f l v) where
+  pub first-on : v < 4 → f (getD l v 0) ≡ false → (length l ≡ 4) × Scanned f l (v + 1)
+  first-on h e = (inv .0, scanned-on (inv .1) (omega (arith, inv .0)) e)
+
+  pub first-at : v < 4 → f (getD l v 0) ≡ true → v ≡ position f l
+  first-at h t = scanned-at (inv .1) (omega (arith, inv .0)) t
+
+  pub first-none : 4 ≤ v → 4 ≡ position f l
+  first-none h = sym (inv .0) ∙ scanned-end (inv .1) (omega (arith, inv .0))
 
 -- ---- the earliest end
 
@@ -74,7 +88,8 @@ module _ (c : Chord) where
 
   module _ (vs : List Voice) where
     free-position : position (isFree c) vs ≡ position (λ e. leb e (c .start)) (map voiceEnd vs)
-    free-position = position-agree (isFree c) (λ v. leb (voiceEnd v) (c .start)) vs (All-all free-is vs) ∙ sym (position-map (λ e. leb e (c .start)) voiceEnd vs)
+    free-position =
+        position-agree (isFree c) (λ v. leb (voiceEnd v) (c .start)) vs (All-all free-is vs) ∙ sym (position-map (λ e. leb e (c .start)) voiceEnd vs)
 
     together-position : any (isFree c) vs ≡ false → position (startsWith c) vs ≡ position (λ s. eqb s (c .start)) (map voiceStart vs)
     together-position e =

@@ -6,6 +6,7 @@ use native.Mathlib.Omega.{arith}
 use lib.ListN.{length, getD, take, replicate, getD-replicate}
 use lib.Seq.{getD-take, length-take-le}
 use Rattle.rules.specs.Lists.{All}
+use Rattle.rules.specs.Piece.{largestSize}
 use Rattle.rules.specs.RawNotes.{RawNote}
 use Rattle.rules.specs.Voices.{Voice, chords, voices}
 use Rattle.laws.specs.NoteWords.{NotesIn, InRange}
@@ -106,7 +107,8 @@ pub sorted-rise : {n m g : ℕ} {w w′ : List ℕ} → SortedTo n m g w w′ �
 sorted-rise {n} {m} {g} {w} s = subst (Rises noteStart) (sym (s .notes)) (sorted-rises g (upTo (noteAt n w) m))
 
 module _ {ns : List RawNote} {n count m g : ℕ} {w w₁ w₂ w₃ : List ℕ} {l : Lasts} (given : NotesIn ns n count w) (small : All (InRange (2 ^ 47)) ns)
-    (grid : g ≤ 65535) (s : SortedTo n count g w w₁) (c : ChordsIn (reverse (gathered (upTo (fallingAt n w₁) count))) n m w₂) (p : Spread n m l w₂ w₃) where
+    (grid : g ≤ largestSize) (s : SortedTo n count g w w₁) (c : ChordsIn (reverse (gathered (upTo (fallingAt n w₁) count))) n m w₂)
+    (p : Spread n m l w₂ w₃) where
   chords-is : upTo (chordAt n w₂) m ≡ chords g ns
   chords-is = c .chords ∙ ap (λ (xs : List RawNote). reverse (gathered xs)) (s .notes) ∙ ap (chords g) (notes-read given small)
 
@@ -125,7 +127,8 @@ module _ {ns : List RawNote} {n count m g : ℕ} {w w₁ w₂ w₃ : List ℕ} {
       let room = c .room in
       record {
         lens = λ v h.
-            sym (ap length (sym (voice-is v h) ∙ reverse-down (λ j. chordAt n w₃ (numberAt n w₃ v j)) (getD (l .lens) v 0)) ∙ upTo-length _ (getD (l .lens) v 0));
+            sym (ap length (sym (voice-is v h) ∙ reverse-down (λ j. chordAt n w₃ (numberAt n w₃ v j)) (getD (l .lens) v 0))
+            ∙ upTo-length _ (getD (l .lens) v 0));
         chords = λ v h. chords-are room (p .cells) v h ∙ voice-is v h;
         room = λ v h. omega (arith, p .cells .few v h);
         numbers = λ v h. rw (numbers-are room (p .cells) v h) (All-upTo (λ i. i < n) (numberAt n w₃ v) _ (λ j o. omega (arith, p .cells .below v j h o)));

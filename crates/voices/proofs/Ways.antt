@@ -141,7 +141,8 @@ module _ {n k : ℕ} {l : Lasts} {w : List ℕ} (next : Next n k l w) where
       filled v h (cut-some c _ _ (rw (upTo-get (voiceAt n w (l .lens)) 4 v [] h) at (r .1)))
 
   -- (d is the chord as the code has it, i the last place)
-  pub placed-free : (d : Chord) {v : ℕ} {r : Lasts} {w′ : List ℕ} → d ≡ c → free v ≡ choose c vs → Pushed n k v (d .start) (d .end) l r w w′ → Placed n k l r w w′
+  pub placed-free : (d : Chord) {v : ℕ} {r : Lasts} {w′ : List ℕ} → d ≡ c → free v ≡ choose c vs → Pushed n k v (d .start) (d .end) l r w w′
+      → Placed n k l r w w′
   placed-free d {v} {r} {w′} same e o =
       let p = subst (λ (x : Chord). Pushed n k v (x .start) (x .end) l r w w′) same o in
       let h = free-place e .0 in

@@ -5,6 +5,7 @@ ghost use mathlib.Core.Path.{_≡_};
 ghost use lib.Dec.{leb, eqb};
 ghost use lib.ListN.{length, getD};
 ghost use Rattle.rules.specs.Lists.{every, position, All};
+ghost use Rattle.rules.specs.Piece.{largestSize};
 ghost use Rattle.rules.specs.RawNotes.{RawNote};
 ghost use Rattle.rules.specs.Voices.{Chord, Voice, choose, voices};
 ghost use Rattle.laws.specs.NoteWords.{NotesIn, InRange};
@@ -195,7 +196,7 @@ fn place_chords(work: &mut [u64], n: usize, m: usize) -> Lasts
 
 // Spreads the notes that stand in columns 0 and 1, snapped to the grid g, over four voices of chords.
 pub fn assign_voices(work: &mut [u64], n: usize, count: usize, g: u64) -> Voices
-    requires { ⌜ (16 * n ≤ length (now work)) × (0 < g) × (g ≤ 65535) × Held n count (now work) ⌝ }
+    requires { ⌜ (16 * n ≤ length (now work)) × (0 < g) × (g ≤ largestSize) × Held n count (now work) ⌝ }
     ensures { λ r. ⌜ ((ns : List RawNote) → NotesIn ns n count (now (work .entry)) → All (InRange (2 ^ 47)) ns
         → VoicesIn (voices g ns) n r (now (work .exit))) ⌝ }
 {

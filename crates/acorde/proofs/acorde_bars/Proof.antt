@@ -1,6 +1,6 @@
--- `acorde::acorde_bars` meets its contract: the answer, case by case.
-use borrow.Author.Needs.{needs}
+-- `acorde_bars`: what `bars` answers, case by case.
 use mathlib.Core.Path.{sym, ap}
+use borrow.Author.Needs.{needs}
 use Rattle.bars.specs.Answers.{barsAnswer}
 use Rattle.acorde.proofs.Entered.{bars-entered}
 use Rattle.acorde.proofs.acorde_bars.Statement.{statement}
@@ -8,11 +8,13 @@ use Rattle.acorde.proofs.acorde_bars.Tie as tie
 
 returns : tie.Need-returns
 returns c =
-    bars-entered (ap barsAnswer (sym (c .before .number .given .1))) (c .before .before .before .before .before .before .before .bars .ensures)
+    let at-arm = c .before in
+    bars-entered (ap barsAnswer (sym (at-arm .number .given .1))) (at-arm .before .before .before .before .before .before .bars .ensures)
 
 returns-2 : tie.Need-returns-2
 returns-2 c =
-    bars-entered (ap barsAnswer (sym (c .before .count .given .1))) (c .before .before .before .before .before .before .before .bars .ensures)
+    let at-arm = c .before in
+    bars-entered (ap barsAnswer (sym (at-arm .count .given .1))) (at-arm .before .before .before .before .before .before .bars .ensures)
 
 pub acorde-bars-spec : {M : Type 1} → statement M
 acorde-bars-spec =

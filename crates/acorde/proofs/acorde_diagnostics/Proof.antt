@@ -1,4 +1,4 @@
--- `acorde::acorde_diagnostics` meets its contract: the answer, case by case.
+-- `acorde_diagnostics`: what `diagnostics` answers, case by case.
 use mathlib.Core.Path.{sym, ap}
 use borrow.Author.Needs.{needs}
 use Rattle.diagnostics.specs.Answers.{diagnosticsAnswer}
@@ -7,10 +7,16 @@ use Rattle.acorde.proofs.acorde_diagnostics.Statement.{statement}
 use Rattle.acorde.proofs.acorde_diagnostics.Tie as tie
 
 returns : tie.Need-returns
-returns c = diagnostics-entered (ap diagnosticsAnswer (sym (c .before .number .given .1))) (c .before .before .before .before .before .before .before .before .before .diagnostics .ensures)
+returns c =
+    let at-arm = c .before in
+    let at-lent = at-arm .before .before .before .before in
+    diagnostics-entered (ap diagnosticsAnswer (sym (at-arm .number .given .1))) (at-lent .before .before .before .before .diagnostics .ensures)
 
 returns-2 : tie.Need-returns-2
-returns-2 c = diagnostics-entered (ap diagnosticsAnswer (sym (c .before .count .given .1))) (c .before .before .before .before .before .before .before .before .before .diagnostics .ensures)
+returns-2 c =
+    let at-arm = c .before in
+    let at-lent = at-arm .before .before .before .before in
+    diagnostics-entered (ap diagnosticsAnswer (sym (at-arm .count .given .1))) (at-lent .before .before .before .before .diagnostics .ensures)
 
 pub acorde-diagnostics-spec : {M : Type 1} → statement M
 acorde-diagnostics-spec =

@@ -1,31 +1,25 @@
--- `acorde::acorde_engrave` meets its contract: the answer, case by case.
+-- `acorde_engrave`: what `engrave` answers, case by case.
 use mathlib.Core.Path.{sym, ap}
 use borrow.Author.Needs.{needs}
-use Rattle.engraver.specs.Parts.{answerOf}
+use Rattle.staffs.specs.Parts.{answerOf}
 use Rattle.acorde.proofs.Entered.{engrave-entered}
 use Rattle.acorde.proofs.acorde_engrave.Statement.{statement}
 use Rattle.acorde.proofs.acorde_engrave.Tie as tie
 
 returns : tie.Need-returns
-returns c = engrave-entered (ap answerOf (sym (c .before .number .given .1))) (c .before .before .before .before .before .before .before .before .before .before .before .engrave .ensures)
+returns c =
+    let at-arm = c .before in
+    let at-lent = at-arm .before .before .before .before .before .before in
+    engrave-entered (ap answerOf (sym (at-arm .number .given .1))) (at-lent .before .before .before .before .engrave .ensures)
 
 returns-2 : tie.Need-returns-2
-returns-2 c = engrave-entered (ap answerOf (sym (c .before .s .given .1))) (c .before .before .before .before .before .before .before .before .before .before .before .engrave .ensures)
+returns-2 c =
+    let at-arm = c .before in
+    let at-lent = at-arm .before .before .before .before .before .before in
+    engrave-entered (ap answerOf (sym (at-arm .s .given .1))) (at-lent .before .before .before .before .engrave .ensures)
 
 pub acorde-engrave-spec : {M : Type 1} → statement M
 acorde-engrave-spec =
     tie.close
-    (tie.spec
-    (λ c κs. search needs)
-    (λ c. search needs)
-    (λ c. search needs)
-    (λ c. search needs)
-    (λ c. search needs)
-    (λ c. search needs)
-    (λ c. search needs)
-    returns
-    (λ c. search needs)
-    (λ c. search needs)
-    (λ c. search needs)
-    (λ c. search needs)
-    returns-2)
+    (tie.spec (λ c κs. search needs) (λ c. search needs) (λ c. search needs) (λ c. search needs) (λ c. search needs) (λ c. search needs)
+    (λ c. search needs) returns (λ c. search needs) (λ c. search needs) (λ c. search needs) (λ c. search needs) returns-2)

@@ -1,4 +1,4 @@
--- `acorde::acorde_head` meets its contract: the answer, case by case.
+-- `acorde_head`: what `head` answers, case by case.
 use borrow.Author.Needs.{needs}
 use mathlib.Core.Path.{sym, ap, subst, _∙_}
 use Rattle.heads.specs.Answers.{headAnswer, HeadCalled}

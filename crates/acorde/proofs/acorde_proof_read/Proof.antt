@@ -1,4 +1,4 @@
--- `acorde::acorde_proof_read` meets its contract: the answer, case by case.
+-- `acorde_proof_read`: what `proof_read` answers, case by case.
 use mathlib.Core.Path.{sym, ap}
 use borrow.Author.Needs.{needs}
 use Rattle.proofread.specs.Answers.{readAnswer}
@@ -10,17 +10,13 @@ returns : tie.Need-returns
 returns c = read-entered (ap readAnswer (sym (c .before .number .given .1))) (c .before .before .before .before .before .proof-read .ensures)
 
 returns-2 : tie.Need-returns-2
-returns-2 c = rw (c .flag .ensures) (read-entered (ap readAnswer (sym (c .before .before .right .given .1))) (c .before .before .before .before .before .before .proof-read .ensures))
+returns-2 c =
+    let at-arm = c .before .before in
+    rw (c .flag .ensures)
+    (read-entered (ap readAnswer (sym (at-arm .right .given .1))) (at-arm .before .before .before .before .proof-read .ensures))
 
 pub acorde-proof-read-spec : {M : Type 1} → statement M
 acorde-proof-read-spec =
     tie.close
-    (tie.spec
-    (λ c κs. search needs)
-    (λ c. search needs)
-    (λ c. search needs)
-    (λ c κs. search needs)
-    (λ c. search needs)
-    returns
-    (λ c. search needs)
-    returns-2)
+    (tie.spec (λ c κs. search needs) (λ c. search needs) (λ c. search needs) (λ c κs. search needs) (λ c. search needs) returns
+    (λ c. search needs) returns-2)

@@ -1,4 +1,4 @@
--- `acorde::head_values` meets its contract.
+-- `head_values`: the fields of a head, its two flags as 0 or 1.
 use borrow.Author.Needs.{needs}
 use Rattle.acorde.proofs.head_values.Statement.{statement}
 use Rattle.acorde.proofs.head_values.Tie as tie

@@ -13,28 +13,39 @@ abbrev μ-loop : tie.MeasureT-loop
 μ-loop deltas words choice n ticks₀ out₀ next₀ tick₀ i₀ ticks out next tick i = length deltas - i
 
 loop-holds : tie.Need-loop-holds Inv-loop μ-loop
-loop-holds c = midway-start (c .before .before .before .before .pre .0) (c .before .before .before .before .args .choice) (c .before .before .before .before .args .n) (c .before .before .before .before .pre .1)
+loop-holds c =
+    let at-start = c .before .before .before .before in
+    midway-start (at-start .pre .0) (at-start .args .choice) (at-start .args .n) (at-start .pre .1)
 
 after-requires : tie.Need-after-requires Inv-loop μ-loop
-after-requires c κs = tick-reached (c .before .before .before .before .before .before .before .pre .0) (c .before .before .before .before .before .before .before .args .choice) (c .before .before .before .before .before .before .before .args .n) (c .before .before .before .before .before .before .before .pre .1) (c .before .before .loop .inv)
+after-requires c κs =
+    let at-loop = c .before .before in
+    let at-start = at-loop .before .before .before .before .before in
+    tick-reached (at-start .pre .0) (at-start .args .choice) (at-start .args .n) (at-start .pre .1) (at-loop .loop .inv)
 
 put-chosen-requires : tie.Need-put-chosen-requires Inv-loop μ-loop
 put-chosen-requires c κs =
-    let start = c .before .before .before .before .before .before .before .before .before .before .before in
-    rw (c .before .before .before .after .ensures) (midway-can (start .pre .0) (start .args .choice) (start .args .n) (start .pre .1) (c .before .before .before .before .before .before .loop .inv) (c .before .before .before .before .before .loop-test .taken))
+    let at-loop-test = c .before .before .before .before .before in
+    let start = at-loop-test .before .before .before .before .before .before in
+    rw (c .before .before .before .after .ensures)
+    (midway-can (start .pre .0) (start .args .choice) (start .args .n) (start .pre .1) (at-loop-test .before .loop .inv)
+    (at-loop-test .loop-test .taken))
 
 loop-again : tie.Need-loop-again Inv-loop μ-loop
 loop-again c =
-    let start = c .before .before .before .before .before .before .before .before .before .before .before .before .before .before .before .before in
+    let at-put-chosen = c .before .before .before .before in
+    let at-after = at-put-chosen .before .before .before .before in
+    let at-loop = at-after .before .before .before in
+    let start = at-loop .before .before .before .before .before in
     midway-more
     (start .pre .0)
     (start .args .choice)
     (start .args .n)
     (start .pre .1)
-    (c .before .before .before .before .before .before .before .before .before .before .before .loop .inv)
-    (c .before .before .before .before .before .before .before .before .before .before .loop-test .taken)
-    (c .before .before .before .before .before .before .before .before .after .ensures)
-    (c .before .before .before .before .put-chosen .ensures)
+    (at-loop .loop .inv)
+    (at-after .before .before .loop-test .taken)
+    (at-after .after .ensures)
+    (at-put-chosen .put-chosen .ensures)
 
 same-length : tie.Need-same-length Inv-loop μ-loop
 same-length c = c .before .loop .inv .inTicks .kept
@@ -43,7 +54,15 @@ same-length-2 : tie.Need-same-length-2 Inv-loop μ-loop
 same-length-2 c = c .before .loop .inv .inWords .kept
 
 returns : tie.Need-returns Inv-loop μ-loop
-returns c = midway-end (c .before .before .before .before .before .before .pre .0) (c .before .before .before .before .before .before .args .choice) (c .before .before .before .before .before .before .args .n) (c .before .before .before .before .before .before .pre .1) (c .before .loop .inv) (c .loop-test .left)
+returns c =
+    let at-start = c .before .before .before .before .before .before in
+    midway-end (at-start .pre .0) (at-start .args .choice) (at-start .args .n) (at-start .pre .1) (c .before .loop .inv) (c .loop-test .left)
+
+shared-slice-read-put-chosen : tie.Need-shared-slice-read-put-chosen Inv-loop μ-loop
+shared-slice-read-put-chosen c =
+    let at-loop = c .before .before .before .before .before .before in
+    let at-start = at-loop .before .before .before .before .before in
+    omega (arith, at-start .pre .0 .same)
 
 pub collect-kind-spec : {M : Type 1} → statement M
 collect-kind-spec =
@@ -56,7 +75,7 @@ collect-kind-spec =
     (λ c. omega arith)
     after-requires
     (λ c. omega arith)
-    (λ c. omega (arith, c .before .before .before .before .before .before .before .before .before .before .before .pre .0 .same))
+    shared-slice-read-put-chosen
     put-chosen-requires
     (λ c. omega arith)
     (λ c. omega arith)

@@ -24,7 +24,9 @@ count-requires c κs =
     (formed-at track _ (c .before .loop-test .taken), counting-few (inv .1) (omega (arith, track .same, track .few)))
 
 loop-again : tie.Need-loop-again Inv-loop μ-loop
-loop-again c = (omega arith, counting-more (c .before .before .before .loop .inv .1) (omega (arith, c .before .before .before .before .before .before .pre .0 .same)) (c .count .ensures))
+loop-again c =
+    let at-start = c .before .before .before .before .before .before in
+    (omega arith, counting-more (c .before .before .before .loop .inv .1) (omega (arith, at-start .pre .0 .same)) (c .count .ensures))
 
 returns : tie.Need-returns Inv-loop μ-loop
 returns c =

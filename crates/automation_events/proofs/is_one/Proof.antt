@@ -17,7 +17,9 @@ returns-4 : tie.Need-returns-4
 returns-4 c = rw (c .before .before .enum-told4 .given .1, ← c .before .before .before .before .take-apart .ensures .kind, eq-eqb _ _ (c .if1 .taken))
 
 returns-5 : tie.Need-returns-5
-returns-5 c = rw (c .before .before .before .enum-told4 .given .1, ← c .before .before .before .before .before .take-apart .ensures .kind, ne-eqb _ _ (c .before .if1 .left))
+returns-5 c =
+    let at-take-apart = c .before .before .before .before .before in
+    rw (c .before .before .before .enum-told4 .given .1, ← at-take-apart .take-apart .ensures .kind, ne-eqb _ _ (c .before .if1 .left))
 
 pub is-one-spec : {M : Type 1} → statement M
 is-one-spec =

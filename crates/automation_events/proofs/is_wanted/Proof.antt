@@ -8,11 +8,12 @@ use Rattle.automation_events.proofs.is_wanted.Tie as tie
 
 array-read-result : tie.Need-array-read-result
 array-read-result c =
-    let h = one-channel _ (c .before .before .before .before .pre) (c .before .before .before .before .args .kind) (sym (c .before .before .before .is-one .ensures) ∙ c .before .before .if1 .taken) in
-    omega (arith, c .wide .ensures, c .before .take-apart .ensures .a)
+    let at-start = c .before .before .before .before in
+    let h = one-channel _ (at-start .pre) (at-start .args .kind) (sym (c .before .before .before .is-one .ensures) ∙ c .before .before .if1 .taken) in
+    omega (arith, c .size .ensures, c .before .take-apart .ensures .a)
 
 returns : tie.Need-returns
-returns c = rw (← c .before .before .before .is-one .ensures, c .before .before .if1 .taken, c .wide .ensures, c .before .take-apart .ensures .a)
+returns c = rw (← c .before .before .before .is-one .ensures, c .before .before .if1 .taken, c .size .ensures, c .before .take-apart .ensures .a)
 
 returns-2 : tie.Need-returns-2
 returns-2 c = rw (← c .before .is-one .ensures, c .if1 .left)

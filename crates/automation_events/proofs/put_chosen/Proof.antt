@@ -7,20 +7,28 @@ use Rattle.automation_events.proofs.put_chosen.Statement.{statement}
 use Rattle.automation_events.proofs.put_chosen.Tie as tie
 
 put-event-requires : tie.Need-put-event-requires
-put-event-requires c κs = c .before .before .before .before .before .before .before .before .pre .room (sym (c .before .before .before .before .is-wanted .ensures) ∙ c .before .before .before .if1 .taken)
+put-event-requires c κs =
+    let at-is-wanted = c .before .before .before .before in
+    let at-start = at-is-wanted .before .before .before .before in
+    at-start .pre .room (sym (at-is-wanted .is-wanted .ensures) ∙ c .before .before .before .if1 .taken)
 
 add-result : tie.Need-add-result
 add-result c =
-    let h = c .before .before .before .before .before .before .before .before .before .before .before .before .before .pre .room (sym (c .before .before .before .before .before .before .before .before .before .is-wanted .ensures) ∙ c .before .before .before .before .before .before .before .before .if1 .taken) in
+    let at-put-event = c .before .before .before .before in
+    let at-if1 = at-put-event .before .before .before .before in
+    let at-start = at-if1 .before .before .before .before .before in
+    let h = at-start .pre .room (sym (at-if1 .before .is-wanted .ensures) ∙ at-if1 .if1 .taken) in
     omega (arith, h .0)
 
 returns : tie.Need-returns
 returns c =
-    let is = sym (c .before .before .before .before .before .before .before .before .before .is-wanted .ensures) ∙ c .before .before .before .before .before .before .before .before .if1 .taken in
+    let at-put-event = c .before .before .before .before in
+    let at-if1 = at-put-event .before .before .before .before in
+    let is = sym (at-if1 .before .is-wanted .ensures) ∙ at-if1 .if1 .taken in
     record {
       next = rw is;
-      ticks = rw is (c .before .before .before .before .put-event .ensures .0 ∙ rw (c .before .before .before .before .before .normalize-tick .ensures));
-      words = rw is (c .before .before .before .before .put-event .ensures .1);
+      ticks = rw is (at-put-event .put-event .ensures .0 ∙ rw (at-put-event .before .normalize-tick .ensures));
+      words = rw is (at-put-event .put-event .ensures .1);
     }
 
 returns-2 : tie.Need-returns-2

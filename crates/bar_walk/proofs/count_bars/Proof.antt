@@ -5,7 +5,8 @@ use native.Mathlib.Omega.{arith}
 use lib.ListN.{length}
 use Rattle.rules.specs.Bars.{barsIn}
 use Rattle.track_events.specs.Track.{eventsOf}
-use Rattle.bar_walk.proofs.WalkLaws.{Walking, walking-start, walking-sane, walking-ready, walking-on, barsAhead, ahead-all, ahead-more, ahead-last, ahead-end}
+use Rattle.bar_walk.proofs.WalkLaws.{Walking, walking-start, walking-sane, walking-ready, walking-on}
+use Rattle.bar_walk.proofs.WalkLaws.{barsAhead, ahead-all, ahead-more, ahead-last, ahead-end}
 use Rattle.bar_walk.proofs.count_bars.Statement.{statement}
 use Rattle.bar_walk.proofs.count_bars.Tie as tie
 
@@ -37,19 +38,21 @@ returns c =
 
 take-changes-requires : tie.Need-take-changes-requires Inv-loop μ-loop
 take-changes-requires c κs =
-    let at = c .before .before .before .before .loop in
-    let given = c .before .before .before .before .before .before .before .before in
-    let more = rw (c .before .before .next-bar .ensures) at (c .if1 .left) in
-    rw (c .before .before .next-bar .ensures) (walking-ready (at .inv .0) (given .pre .track) _ (given .pre .end-fits) more)
+    let at-next-bar = c .before .before in
+    let given = at-next-bar .before .before .before .before .before .before in
+    let at = at-next-bar .before .before .loop in
+    let more = rw (at-next-bar .next-bar .ensures) at (c .if1 .left) in
+    rw (at-next-bar .next-bar .ensures) (walking-ready (at .inv .0) (given .pre .track) _ (given .pre .end-fits) more)
 
 loop-again : tie.Need-loop-again Inv-loop μ-loop
 loop-again c =
-    let at = c .before .before .before .before .before .loop in
-    let given = c .before .before .before .before .before .before .before .before .before in
+    let at-loop-test = c .before .before .before .before in
+    let given = at-loop-test .before .before .before .before .before in
+    let at = at-loop-test .before .loop in
     let next = c .before .before .before .next-bar .ensures in
     let more = rw next at (c .before .if1 .left) in
     let s = rw next at (c .take-changes .ensures) in
-    let step = ahead-more (at .inv .0 .bar) _ (c .before .before .before .before .loop-test .taken) s more in
+    let step = ahead-more (at .inv .0 .bar) _ (at-loop-test .loop-test .taken) s more in
     (walking-on (at .inv .0) s _ (given .pre .end-fits) more, omega (arith, at .inv .1, ap length step))
 
 returns-2 : tie.Need-returns-2 Inv-loop μ-loop

@@ -29,17 +29,23 @@ loop-holds c =
 
 slice-write-starts : tie.Need-slice-write-starts Inv-loop μ-loop
 slice-write-starts c =
-    let at = c .before .loop in
-    in-starts (at .inv .0 .bar) (at .inv .1) (c .loop-test .taken) (c .before .before .before .before .before .before .before .pre .1)
+    let at-loop = c .before in
+    let at-start = at-loop .before .before .before .before .before .before in
+    let at = at-loop .loop in
+    in-starts (at .inv .0 .bar) (at .inv .1) (c .loop-test .taken) (at-start .pre .1)
 
 slice-write-marks : tie.Need-slice-write-marks Inv-loop μ-loop
 slice-write-marks c =
-    let at = c .before .before .loop in
-    in-marks (at .inv .0 .bar) (at .inv .1) (c .before .loop-test .taken) (c .before .before .before .before .before .before .before .before .pre .1)
+    let at-loop = c .before .before in
+    let at-start = at-loop .before .before .before .before .before .before in
+    let at = at-loop .loop in
+    in-marks (at .inv .0 .bar) (at .inv .1) (c .before .loop-test .taken) (at-start .pre .1)
 
 next-bar-requires : tie.Need-next-bar-requires Inv-loop μ-loop
 next-bar-requires c κs =
-    walking-sane (c .before .before .loop .inv .0) (c .before .before .before .before .before .before .before .before .pre .0 .ticks)
+    let at-loop = c .before .before in
+    let at-start = at-loop .before .before .before .before .before .before in
+    walking-sane (at-loop .loop .inv .0) (at-start .pre .0 .ticks)
 
 same-length : tie.Need-same-length Inv-loop μ-loop
 same-length c = simp length-set (omega (arith, c .before .before .before .before .before .loop .inv .1 .first .kept))
@@ -49,28 +55,34 @@ same-length-2 c = simp length-set (omega (arith, c .before .before .before .befo
 
 returns : tie.Need-returns Inv-loop μ-loop
 returns c =
-    let at = c .before .before .before .before .before .loop in
-    let given = c .before .before .before .before .before .before .before .before .before .before .before in
+    let at-loop-test = c .before .before .before .before in
+    let at-loop = at-loop-test .before in
+    let given = at-loop .before .before .before .before .before .before in
+    let at = at-loop .loop in
     let last = rw (c .before .before .next-bar .ensures) at (c .if1 .taken) in
-    rw (c .before .before .before .mark .ensures) (out-last (at .inv .0 .bar) (at .inv .1) (c .before .before .before .before .loop-test .taken) (given .pre .1) last)
+    rw (c .before .before .before .mark .ensures) (out-last (at .inv .0 .bar) (at .inv .1) (at-loop-test .loop-test .taken) (given .pre .1) last)
 
 take-changes-requires : tie.Need-take-changes-requires Inv-loop μ-loop
 take-changes-requires c κs =
-    let at = c .before .before .before .before .before .loop in
-    let given = c .before .before .before .before .before .before .before .before .before .before .before in
-    let more = rw (c .before .before .next-bar .ensures) at (c .if1 .left) in
-    rw (c .before .before .next-bar .ensures) (walking-ready (at .inv .0) (given .pre .0 .track) _ (given .pre .0 .end-fits) more)
+    let at-next-bar = c .before .before in
+    let at-loop = at-next-bar .before .before .before in
+    let given = at-loop .before .before .before .before .before .before in
+    let at = at-loop .loop in
+    let more = rw (at-next-bar .next-bar .ensures) at (c .if1 .left) in
+    rw (at-next-bar .next-bar .ensures) (walking-ready (at .inv .0) (given .pre .0 .track) _ (given .pre .0 .end-fits) more)
 
 loop-again : tie.Need-loop-again Inv-loop μ-loop
 loop-again c =
-    let at = c .before .before .before .before .before .before .loop in
-    let given = c .before .before .before .before .before .before .before .before .before .before .before .before in
+    let at-mark = c .before .before .before .before in
+    let at-loop = at-mark .before .before in
+    let given = at-loop .before .before .before .before .before .before in
+    let at = at-loop .loop in
     let next = c .before .before .before .next-bar .ensures in
     let more = rw next at (c .before .if1 .left) in
     let s = rw next at (c .take-changes .ensures) in
-    rw (c .before .before .before .before .mark .ensures) (
+    rw (at-mark .mark .ensures) (
       walking-on (at .inv .0) s _ (given .pre .0 .end-fits) more,
-      out-more (at .inv .0 .bar) (at .inv .1) (c .before .before .before .before .before .loop-test .taken) (given .pre .1) s more,
+      out-more (at .inv .0 .bar) (at .inv .1) (at-mark .before .loop-test .taken) (given .pre .1) s more,
     )
 
 same-length-3 : tie.Need-same-length-3 Inv-loop μ-loop

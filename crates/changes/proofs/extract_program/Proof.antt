@@ -17,18 +17,20 @@ abbrev μ-loop : tie.MeasureT-loop
 
 returns : tie.Need-returns Inv-loop μ-loop
 returns c =
-    let at = c .before .before .before .before .before .loop in
-    let ws = c .before .before .before .before .before .before .before .args .words .now in
+    let at-loop-test = c .before .before .before .before in
+    let at = at-loop-test .before .loop in
+    let ws = at-loop-test .before .before .before .args .words .now in
     let is = c .before .before .take-apart .ensures in
-    let first = sym (program-here ws (at .i) (c .before .before .before .before .loop-test .taken) (sym (is .kind) ∙ c .if1 .taken)) ∙ at .inv .1 in
+    let first = sym (program-here ws (at .i) (at-loop-test .loop-test .taken) (sym (is .kind) ∙ c .if1 .taken)) ∙ at .inv .1 in
     program-is ws _ (is .a ∙ ap (λ (x : rules.PartHead). x .channel) first) (is .b ∙ ap (λ (x : rules.PartHead). x .program) first)
 
 loop-again : tie.Need-loop-again Inv-loop μ-loop
 loop-again c =
-    let at = c .before .before .before .before .before .loop in
-    let ws = c .before .before .before .before .before .before .before .args .words .now in
+    let at-loop-test = c .before .before .before .before in
+    let at = at-loop-test .before .loop in
+    let ws = at-loop-test .before .before .before .args .words .now in
     let is = c .before .before .take-apart .ensures in
-    (omega arith, sym (program-on ws (at .i) (c .before .before .before .before .loop-test .taken) (λ k. c .if1 .left (is .kind ∙ k))) ∙ at .inv .1)
+    (omega arith, sym (program-on ws (at .i) (at-loop-test .loop-test .taken) (λ k. c .if1 .left (is .kind ∙ k))) ∙ at .inv .1)
 
 returns-2 : tie.Need-returns-2 Inv-loop μ-loop
 returns-2 c =

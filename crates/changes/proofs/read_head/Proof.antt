@@ -20,8 +20,9 @@ loop-holds c = rw (c .new .ensures) (omega arith, reads-start _)
 
 returns : tie.Need-returns Inv-loop μ-loop
 returns c =
-    let at = c .before .before .before .before .loop in
-    let given = c .before .before .before .before .before .before .before .before in
+    let at-loop = c .before .before .before .before in
+    let given = at-loop .before .before .before .before in
+    let at = at-loop .loop in
     let ds = given .args .deltas .now in
     let ws = given .args .words .now in
     let here : at .i < length ds = omega arith in
@@ -30,13 +31,15 @@ returns c =
 
 take-requires : tie.Need-take-requires Inv-loop μ-loop
 take-requires c κs =
-    let given = c .before .before .before .before .before .before .before .before in
-    formed-at (given .pre) (c .before .before .before .before .loop .i) (omega arith)
+    let at-loop = c .before .before .before .before in
+    let given = at-loop .before .before .before .before in
+    formed-at (given .pre) (at-loop .loop .i) (omega arith)
 
 loop-again : tie.Need-loop-again Inv-loop μ-loop
 loop-again c =
-    let at = c .before .before .before .before .before .loop in
-    let given = c .before .before .before .before .before .before .before .before .before in
+    let at-loop = c .before .before .before .before .before in
+    let given = at-loop .before .before .before .before in
+    let at = at-loop .loop in
     let ds = given .args .deltas .now in
     let ws = given .args .words .now in
     let here : at .i < length ds = omega arith in
@@ -52,6 +55,12 @@ returns-2 c =
     rw (c .done2 .ensures)
     (reads-end _ (left 0 (at .i) ds ws) (rw (left-none 0 (at .i) ds ws (c .before .loop-test .left)) tt) (at .read) (at .inv .1))
 
+shared-slice-read-take : tie.Need-shared-slice-read-take Inv-loop μ-loop
+shared-slice-read-take c =
+    let at-loop = c .before .before .before .before in
+    let at-start = at-loop .before .before .before .before in
+    omega (arith, at-start .pre .same)
+
 pub read-head-spec : {M : Type 1} → statement M
 read-head-spec =
     tie.close
@@ -65,7 +74,7 @@ read-head-spec =
     (λ c κs. search needs)
     returns
     (λ c. omega arith)
-    (λ c. omega (arith, c .before .before .before .before .before .before .before .before .pre .same))
+    shared-slice-read-take
     take-requires
     (λ c. omega arith)
     (λ c. omega arith)

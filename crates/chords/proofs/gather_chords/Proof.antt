@@ -9,7 +9,8 @@ use Rattle.laws.specs.Sort.{FallsFrom}
 use Rattle.laws.proofs.ChordLaws.{chordStart}
 use Rattle.laws.specs.Places.{down}
 use Rattle.chords.specs.Columns.{noteOf, chordAt}
-use Rattle.chords.proofs.Gathering.{Searching, Found, searching-none, searching-on, found-none, found-one, Gathering, gathering-none, before-falls, gathering-open, gathering-join, gathering-end}
+use Rattle.chords.proofs.Gathering.{Searching, Found, searching-none, searching-on, found-none, found-one, Gathering}
+use Rattle.chords.proofs.Gathering.{gathering-none, before-falls, gathering-open, gathering-join, gathering-end}
 use Rattle.chords.proofs.gather_chords.Statement.{statement}
 use Rattle.chords.proofs.gather_chords.Tie as tie
 
@@ -30,7 +31,9 @@ loop-holds c = gathering-none _ _ _
 
 -- the chords so far come in order, none after the note
 falls : (c : tie.After-note-at Inv-search μ-search Inv-loop μ-loop)
-    → FallsFrom chordStart (c .note-at .result .start) (down (chordAt (c .before .before .before .before .before .args .n) (c .before .before .before .loop .work)) (c .before .before .before .loop .chords))
+    →
+    let at-loop = c .before .before .before in
+    FallsFrom chordStart (c .note-at .result .start) (down (chordAt (at-loop .before .before .args .n) (at-loop .loop .work)) (at-loop .loop .chords))
 falls c =
     let start = c .before .before .before .before .before in
     before-falls (start .pre .1) (c .before .before .before .loop .inv) (omega arith) (c .note-at .ensures) (start .pre .2)
@@ -40,8 +43,10 @@ key-small c = omega (arith, ap (λ (x : RawNote). x .key) (c .note-at .ensures))
 
 -- the three ways out of the search
 found : (c : tie.Joined1 Inv-search μ-search Inv-loop μ-loop)
-    → Found (c .before .before .before .before .before .before .before .args .n) (c .before .before .before .before .before .loop .chords) (c .if1 .at)
-    (noteOf (c .before .before .note-at .result)) (c .before .before .before .before .before .loop .work)
+    →
+    let at-loop = c .before .before .before .before .before in
+    Found (at-loop .before .before .args .n) (at-loop .loop .chords) (c .if1 .at)
+    (noteOf (c .before .before .note-at .result)) (at-loop .loop .work)
 found c =
     let here = c .before .search .inv in
     ⊎-elim (λ w. rw (w .2) (found-none here (falls (c .before .before)) (λ h. absurd (omega arith))))
@@ -53,19 +58,26 @@ search-holds : tie.Need-search-holds Inv-search μ-search Inv-loop μ-loop
 search-holds c = searching-none _ _ _ _
 
 search-again : tie.Need-search-again Inv-search μ-search Inv-loop μ-loop
-search-again c = searching-on (c .before .before .before .before .before .before .before .search .inv) (omega arith) (c .before .before .before .if2 .left) (c .if3 .left)
+search-again c =
+    let at-if2 = c .before .before .before in
+    let at-search = at-if2 .before .before .before .before in
+    searching-on (at-search .search .inv) (omega arith) (at-if2 .if2 .left) (c .if3 .left)
 
 loop-again : tie.Need-loop-again Inv-search μ-search Inv-loop μ-loop
 loop-again c =
-    let d = c .before .before .before .before .before in
-    gathering-open (d .before .before .before .before .before .before .before .pre .1) (d .before .before .before .before .before .loop .inv) (omega arith)
-    (d .before .before .note-at .ensures) (found d) (c .before .before .before .before .if4 .taken) (c .before .before .open-chord .ensures)
+    let at-if4 = c .before .before .before .before in
+    let d = at-if4 .before in
+    let at-loop = d .before .before .before .before .before in
+    gathering-open (at-loop .before .before .pre .1) (at-loop .loop .inv) (omega arith)
+    (d .before .before .note-at .ensures) (found d) (at-if4 .if4 .taken) (c .before .before .open-chord .ensures)
 
 loop-again-2 : tie.Need-loop-again-2 Inv-search μ-search Inv-loop μ-loop
 loop-again-2 c =
-    let d = c .before .before .before .before .before in
-    gathering-join (d .before .before .before .before .before .before .before .pre .1) (d .before .before .before .before .before .loop .inv) (omega arith)
-    (d .before .before .note-at .ensures) (found d) (c .before .before .before .before .if4 .left) (c .before .before .join-chord .ensures)
+    let at-if4 = c .before .before .before .before in
+    let d = at-if4 .before in
+    let at-loop = d .before .before .before .before .before in
+    gathering-join (at-loop .before .before .pre .1) (at-loop .loop .inv) (omega arith)
+    (d .before .before .note-at .ensures) (found d) (at-if4 .if4 .left) (c .before .before .join-chord .ensures)
 
 returns : tie.Need-returns Inv-search μ-search Inv-loop μ-loop
 returns c = gathering-end (c .before .before .before .pre .1) (omega arith) (c .before .loop .inv)

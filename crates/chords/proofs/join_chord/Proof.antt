@@ -12,7 +12,9 @@ use Rattle.chords.proofs.join_chord.Tie as tie
 
 -- the mark that the chord gets
 marked : (c : tie.Joined1)
-    → c .if1 .unpitched ≡ (c .before .before .before .before .chord-at .result .unpitched && eqb (c .before .before .before .before .before .before .before .args .note .channel) 9)
+    →
+    let at-chord-at = c .before .before .before .before in
+    c .if1 .unpitched ≡ (at-chord-at .chord-at .result .unpitched && eqb (at-chord-at .before .before .before .args .note .channel) 9)
 marked c = ⊎-elim (λ w. rw (w .0 .taken) (w .2)) (λ w. rw (w .0 .left) (w .1 ∙ w .0 .left)) (c .if1 .came)
 
 returns : tie.Need-returns

@@ -7,14 +7,18 @@ use Rattle.chords.proofs.snap_notes.Tie as tie
 
 fetch-notes-requires : tie.Need-fetch-notes-requires
 fetch-notes-requires c κs =
-    let start = c .before .before .before .before .before .before .before .before .before .before in
-    (omega arith, start .pre .room, after-small (start .pre) (c .before .before .before .before .before .before .before .snap-words .ensures) (c .before .before .before .sort-places .ensures))
+    let at-sort-places = c .before .before .before in
+    let at-snap-words = at-sort-places .before .before .before .before in
+    let start = at-snap-words .before .before .before in
+    (omega arith, start .pre .room, after-small (start .pre) (at-snap-words .snap-words .ensures) (at-sort-places .sort-places .ensures))
 
 returns : tie.Need-returns
 returns c =
     let d = c .before .before .before in
-    let start = d .before .before .before .before .before .before .before .before .before .before in
-    sorted-from (start .pre) (d .before .before .before .before .before .before .before .snap-words .ensures) (d .before .before .before .sort-places .ensures)
+    let at-sort-places = d .before .before .before in
+    let at-snap-words = at-sort-places .before .before .before .before in
+    let start = at-snap-words .before .before .before in
+    sorted-from (start .pre) (at-snap-words .snap-words .ensures) (at-sort-places .sort-places .ensures)
     (c .before .before .fetch-notes .ensures) (d .before .before .work2 .given .1)
 
 pub snap-notes-spec : {M : Type 1} → statement M

@@ -16,7 +16,8 @@ loop-holds : tie.Need-loop-holds Inv-loop μ-loop
 loop-holds c = snapping-none (c .before .pre)
 
 -- the words of the note, as they were given
-words-in : (c : tie.In-loop Inv-loop μ-loop) → Words (c .before .before .before .args .n) (c .before .loop .i) (c .before .before .before .args .work .now) (c .before .loop .work)
+words-in : (c : tie.In-loop Inv-loop μ-loop)
+    → Words (c .before .before .before .args .n) (c .before .loop .i) (c .before .before .before .args .work .now) (c .before .loop .work)
 words-in c = words (c .before .before .before .pre) (c .before .loop .inv) (omega arith)
 
 started : (c : tie.After-snap Inv-loop μ-loop) → c .snap .result ≤ 2 ^ 47 + 32767
@@ -27,14 +28,15 @@ started c =
 
 ended : (c : tie.After-larger Inv-loop μ-loop) → c .larger .result ≤ 2 ^ 47 + 98302
 ended c =
-    let here = c .before .before .before .before .before .before .loop in
-    let a = c .before .before .before .before .before .before .before .before .args in
-    omega (arith, started (c .before .before), words-in (c .before .before .before .before .before), snap-le (a .g) (getD (here .work) (here .i) 0 / 16))
+    let at-loop-test = c .before .before .before .before .before in
+    let here = at-loop-test .before .loop in
+    let a = at-loop-test .before .before .before .args in
+    omega (arith, started (c .before .before), words-in at-loop-test, snap-le (a .g) (getD (here .work) (here .i) 0 / 16))
 
 loop-again : tie.Need-loop-again Inv-loop μ-loop
 loop-again c =
-    let start = c .before .before .before .before .before .before .before .before in
     let here = c .before .before .before .before .before .before in
+    let start = here .before .before in
     snapping-one (start .pre) (here .loop .inv) (omega arith) _ _ (c .before .before .snap .ensures) (rw (c .before .snap2 .ensures) at (c .larger .ensures))
 
 returns : tie.Need-returns Inv-loop μ-loop

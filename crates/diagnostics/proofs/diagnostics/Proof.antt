@@ -1,4 +1,4 @@
--- `diagnostics::diagnostics` meets its contract: the work area is zeroed on every path.
+-- `diagnostics` meets its contract: the work area is zeroed on every path.
 use mathlib.Core.Path.{ap, _∙_}
 use borrow.Author.Needs.{needs}
 use lib.ListN.{replicate}
@@ -8,7 +8,11 @@ use Rattle.diagnostics.proofs.diagnostics.Tie as tie
 
 returns : tie.Need-returns
 returns c =
-    work-zeroed (c .before .before .before .before .before .before .before .before .before .before .write-diagnostics .ensures) (c .before .before .clear .ensures ∙ ap (λ n. replicate n 0) (c .before .before .before .before .before .before .before .before .before .before .write-diagnostics .kept .1 .1 .1 .1 .1 .0))
+    let at-clear = c .before .before in
+    let at-work = at-clear .before .before .before in
+    let at-written = at-work .before .before .before .before .before in
+    let kept = at-written .write-diagnostics .kept .1 .1 .1 .1 .1 .0 in
+    work-zeroed (at-written .write-diagnostics .ensures) (at-clear .clear .ensures ∙ ap (λ n. replicate n 0) kept)
 
 pub diagnostics-spec : {M : Type 1} → statement M
 diagnostics-spec =

@@ -1,77 +1,106 @@
--- `diagnostics::write_diagnostics` meets its contract: the count is known before anything is written.
-use mathlib.Core.Path.{_≡_, sym, _∙_}
+-- `write_diagnostics` meets its contract: the count is known before anything is written.
+use Prim.Native.Nat.{_≤_}
 use native.Mathlib.Omega.{arith}
 use borrow.Author.Needs.{needs}
-use Rattle.rules.specs.Piece.{piece}
-use Rattle.rules.specs.Refusals.{firstNumber, pieceRefusals}
-use Rattle.laws.specs.Admitted.{Admitted}
-use Rattle.piece.proofs.Numbers.{admits}
-use Rattle.piece.proofs.Ranges.{most-few}
-use Rattle.diagnostics.proofs.DiagnosticsOutcomes.{number-refuses, work-short, none-written, places-short, details-short, all-written}
+use lib.ListN.{length}
+use Rattle.rules.specs.Refusals.{workFor}
+use Rattle.opening.proofs.Opening.{piece-admitted, few-notes}
+use Rattle.diagnostics.proofs.DiagnosticsOutcomes.{piece-refused, work-refused, none-written, places-refused, details-refused, all-written}
 use Rattle.diagnostics.proofs.write_diagnostics.Statement.{statement}
 use Rattle.diagnostics.proofs.write_diagnostics.Tie as tie
 
 returns : tie.Need-returns
-returns c = number-refuses _ _ _ _ _ (c .before .admission .ensures) (c .if1 .taken)
+returns c = piece-refused _ _ _ _ (c .before .before .open-piece .ensures) (c .if1 .taken)
 
--- none of 1 to 5 applies
-none : (c : tie.Else1)
-    → firstNumber (pieceRefusals (piece (c .before .before .before .before .before .before .before .before .args .sizes .now) (c .before .before .before .before .before .before .before .before .args .deltas .now) (c .before .before .before .before .before .before .before .before .args .words .now))) ≡ 0
-none c = sym (c .before .admission .ensures) ∙ c .if1 .left
-
-known : (c : tie.Else1) → Admitted (piece (c .before .before .before .before .before .before .before .before .args .sizes .now) (c .before .before .before .before .before .before .before .before .args .deltas .now) (c .before .before .before .before .before .before .before .before .args .words .now))
-known c = admits _ (none c)
-
-mul-if2 : tie.Need-mul-if2
-mul-if2 c = record { fits = omega (arith, c .survey .ensures .most, most-few _ (known (c .before))) }
-
-add-if2 : tie.Need-add-if2
-add-if2 c = record { fits = omega (arith, c .survey .ensures .most, most-few _ (known (c .before))) }
+work-for-requires : tie.Need-work-for-requires
+work-for-requires c κs =
+    let opened = c .before .before .open-piece .ensures in
+    few-notes _ (piece-admitted _ opened (c .if1 .left)) (opened .most (c .if1 .left))
 
 returns-2 : tie.Need-returns-2
-returns-2 c = work-short _ _ _ _ _ (none (c .before .before)) (c .before .survey .ensures .most) (omega (arith, c .if2 .taken))
+returns-2 c =
+    let at-if1 = c .before .before in
+    work-refused _ _ _ _ (at-if1 .before .before .open-piece .ensures) (at-if1 .if1 .left) (omega (arith, c .if2 .taken, c .before .work-for .ensures))
+
+-- the work area has room
+enough : (c : tie.Else2)
+    →
+    let at-open = c .before .before .before .before in
+    let at-slice-known = at-open .before .before .before in
+    let start = at-slice-known .before .before .before .before in
+    workFor (at-open .open-piece .result .most) ≤ length (start .args .work .now)
+enough c = omega (arith, c .if2 .left, c .before .work-for .ensures)
 
 count-diagnostics-requires : tie.Need-count-diagnostics-requires
 count-diagnostics-requires c κs =
-    record { admitted = known (c .before .before .before); most = omega (arith, c .before .before .survey .ensures .most); area = omega (arith, c .before .if2 .left) }
+    let at-if2 = c .before in
+    let at-if1 = at-if2 .before .before in
+    let opened = at-if1 .before .before .open-piece .ensures in
+    record {
+      admitted = piece-admitted _ opened (at-if1 .if1 .left);
+      most = omega (arith, opened .most (at-if1 .if1 .left));
+      area = omega (arith, enough at-if2);
+    }
 
 returns-3 : tie.Need-returns-3
 returns-3 c =
-    let o = c .before .before .before in
-    none-written _ _ _ _ _ (none (o .before .before .before .before)) (o .before .before .before .survey .ensures .most) (o .before .before .if2 .left) _ (o .count-diagnostics .ensures .0) (omega (arith, c .if3 .taken))
+    let at-count = c .before .before .before in
+    let at-if2 = at-count .before .before in
+    let at-if1 = at-if2 .before .before in
+    none-written _ _ _ _ (at-if1 .before .before .open-piece .ensures) (at-if1 .if1 .left) (enough at-if2) (at-count .count-diagnostics .ensures .0)
+    (omega (arith, c .if3 .taken))
 
 returns-4 : tie.Need-returns-4
 returns-4 c =
-    let o = c .before .before .before .before in
-    places-short _ _ _ _ _ (none (o .before .before .before .before)) (o .before .before .before .survey .ensures .most) (o .before .before .if2 .left) _ (o .count-diagnostics .ensures .0) (omega (arith, c .if4 .taken))
+    let at-count = c .before .before .before .before in
+    let at-if2 = at-count .before .before in
+    let at-if1 = at-if2 .before .before in
+    places-refused _ _ _ _ (at-if1 .before .before .open-piece .ensures) (at-if1 .if1 .left) (enough at-if2) (at-count .count-diagnostics .ensures .0)
+    (omega (arith, c .if4 .taken))
 
 returns-5 : tie.Need-returns-5
 returns-5 c =
-    let o = c .before .before .before .before .before in
-    details-short _ _ _ _ _ (none (o .before .before .before .before)) (o .before .before .before .survey .ensures .most) (o .before .before .if2 .left) _ (o .count-diagnostics .ensures .0) (c .before .if4 .left)
-    (omega (arith, c .if5 .taken))
+    let at-count = c .before .before .before .before .before in
+    let at-if2 = at-count .before .before in
+    let at-if1 = at-if2 .before .before in
+    details-refused _ _ _ _ (at-if1 .before .before .open-piece .ensures) (at-if1 .if1 .left) (enough at-if2) (at-count .count-diagnostics .ensures .0)
+    (c .before .if4 .left) (omega (arith, c .if5 .taken))
 
 loss-diagnostics-requires : tie.Need-loss-diagnostics-requires
 loss-diagnostics-requires c κs =
-    let o = c .before .before .before .before .before .before .before .before in
-    let counted = o .count-diagnostics .ensures .0 in (
+    let at-if5 = c .before .before .before in
+    let at-if4 = at-if5 .before in
+    let at-count = at-if4 .before .before .before .before in
+    let at-if2 = at-count .before .before in
+    let at-if1 = at-if2 .before .before in
+    let opened = at-if1 .before .before .open-piece .ensures in
+    let counted = at-count .count-diagnostics .ensures .0 in (
       record {
-        admitted = known (o .before .before .before .before);
-        most = omega (arith, o .before .before .before .survey .ensures .most);
-        area = omega (arith, o .before .before .if2 .left, o .count-diagnostics .kept .1 .1 .1 .0);
+        admitted = piece-admitted _ opened (at-if1 .if1 .left);
+        most = omega (arith, opened .most (at-if1 .if1 .left));
+        area = omega (arith, enough at-if2, at-count .count-diagnostics .kept .1 .1 .1 .0);
       },
-      omega (arith, counted, c .before .before .before .before .if4 .left),
-      omega (arith, counted, c .before .before .before .if5 .left),
+      omega (arith, counted, at-if4 .if4 .left),
+      omega (arith, counted, at-if5 .if5 .left),
     )
 
-cast-t24 : tie.Need-cast-t24
-cast-t24 c = omega (arith, c .before .before .before .before .before .before .before .before .before .before .before .before .before .before .before .count-diagnostics .ensures .1)
+cast-t22 : tie.Need-cast-t22
+cast-t22 c =
+    let at-places = c .before .before .before .before .before in
+    let at-if5 = at-places .before .before .before .before .before in
+    let at-count-diagnostics = at-if5 .before .before .before .before .before in
+    omega (arith, at-count-diagnostics .count-diagnostics .ensures .1)
 
 returns-6 : tie.Need-returns-6
 returns-6 c =
-    let o = c .before .before .before .before .before .before .before .before .before .before .before .before .before .before .before in
-    all-written _ _ _ _ _ (none (o .before .before .before .before)) (o .before .before .before .survey .ensures .most) (o .before .before .if2 .left) _ (o .count-diagnostics .ensures .0) (c .before .before .before .before .before .before .before .before .before .before .before .if4 .left)
-    (c .before .before .before .before .before .before .before .before .before .before .if5 .left) (c .before .before .before .before .before .before .loss-diagnostics .ensures .0) (c .before .before .before .before .before .before .loss-diagnostics .ensures .1)
+    let at-written = c .before .before .before .before .before .before in
+    let at-if5 = at-written .before .before .before .before in
+    let at-if4 = at-if5 .before in
+    let at-count = at-if4 .before .before .before .before in
+    let at-if2 = at-count .before .before in
+    let at-if1 = at-if2 .before .before in
+    all-written _ _ _ _ (at-if1 .before .before .open-piece .ensures) (at-if1 .if1 .left) (enough at-if2) (at-count .count-diagnostics .ensures .0)
+    (at-if4 .if4 .left) (at-if5 .if5 .left) (at-written .loss-diagnostics .ensures .0) (at-written .loss-diagnostics .ensures .1)
 
 pub write-diagnostics-spec : {M : Type 1} → statement M
 write-diagnostics-spec =
@@ -79,9 +108,7 @@ write-diagnostics-spec =
     (tie.spec
     (λ c κs. search needs)
     returns
-    (λ c κs. known c .sizes)
-    mul-if2
-    add-if2
+    work-for-requires
     returns-2
     count-diagnostics-requires
     (λ c. search needs)
@@ -91,7 +118,7 @@ write-diagnostics-spec =
     (λ c. search needs)
     returns-5
     loss-diagnostics-requires
-    cast-t24
+    cast-t22
     (λ c. search needs)
     (λ c. search needs)
     (λ c. search needs)

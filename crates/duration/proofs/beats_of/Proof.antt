@@ -8,8 +8,9 @@ use Rattle.duration.proofs.beats_of.Tie as tie
 
 returns : tie.Need-returns
 returns c =
+    let at-from-code = c .before .before .before .before in
     let g = c .before .before .d .given in
-    let e = same-code (g .0 .0) (c .before .before .before .before .before .args .code) (sym (ap codedAnswer (g .1)) ∙ c .before .before .before .before .from-code .ensures) in
+    let e = same-code (g .0 .0) (at-from-code .before .args .code) (sym (ap codedAnswer (g .1)) ∙ at-from-code .from-code .ensures) in
     rw e at (c .beats .ensures)
 
 returns-2 : tie.Need-returns-2

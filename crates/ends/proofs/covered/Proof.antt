@@ -7,10 +7,10 @@ use Rattle.ends.proofs.covered.Statement.{statement}
 use Rattle.ends.proofs.covered.Tie as tie
 
 returns : tie.Need-returns
-returns c t = omega (arith, ends-soon (c .before .before .before .before .pre), c .before .last-tick .ensures, c .if1 .taken)
+returns c t = omega (arith, ends-soon (c .before .before .before .before .pre), c .before .total .ensures, c .if1 .taken)
 
 returns-2 : tie.Need-returns-2
-returns-2 c t = omega (arith, c .quiet-end .ensures t, c .before .before .before .last-tick .ensures, c .before .if2 .taken)
+returns-2 c t = omega (arith, c .quiet-end .ensures t, c .before .before .before .total .ensures, c .before .if2 .taken)
 
 pub covered-spec : {M : Type 1} → statement M
 covered-spec =

@@ -1,10 +1,10 @@
--- `ends::end_of_piece` meets its contract. The loop's invariant: the end so far and that of the parts to come are the end of the piece.
-use Prim.Native.Nat.{_-_, _+_, _≤_}
-use mathlib.Core.Path.{_≡_, ap}
+-- `end_of_piece`: the largest end of the parts. The invariant, `Between`: the end so far and that of the parts to come are the end of the piece.
+use Prim.Native.Nat.{_-_}
 use native.Mathlib.Omega.{arith}
 use borrow.Author.Needs.{needs}
 use lib.ListN.{length}
-use Rattle.ends.proofs.PartEnds.{Between, whole, between-first, track-within, track-here, between-next, between-end, between-full}
+use Rattle.tracks.proofs.Cuts.{cut-deltas, cut-words, cut-track}
+use Rattle.ends.proofs.PartEnds.{Between, between-first, between-next, between-end, between-full}
 use Rattle.ends.proofs.end_of_piece.Statement.{statement}
 use Rattle.ends.proofs.end_of_piece.Tie as tie
 
@@ -14,43 +14,30 @@ Inv-loop sizes deltas words s₀ from₀ i₀ s from i = Between sizes deltas wo
 abbrev μ-loop : tie.MeasureT-loop
 μ-loop sizes deltas words s₀ from₀ i₀ s from i = length sizes - i
 
--- the track's events are within the arrays
-fits : (c : tie.After-wide Inv-loop μ-loop)
-    → c .before .before .before .before .before .loop .from + c .wide .result
-    ≤ length (c .before .before .before .before .before .before .before .before .before .args .deltas .now)
-fits c =
-    let here = c .before .before .before .before .before in
-    omega (arith, c .wide .ensures, track-within (here .before .before .before .before .pre) (here .loop .inv) (omega arith))
+cut-requires : tie.Need-cut-requires Inv-loop μ-loop
+cut-requires c κs = cut-deltas (c .before .before .before .before .before .loop .inv .cut) (omega arith) (c .size .ensures)
 
-same-length : (c : tie.After-with-track-arg Inv-loop μ-loop)
-    → length (c .before .before .before .before .before .before .before .before .before .before .args .words .now)
-    ≡ length (c .before .before .before .before .before .before .before .before .before .before .args .deltas .now)
-same-length c = whole (c .before .before .before .before .before .before .before .before .before .before .pre) .same
-
-loop-holds : tie.Need-loop-holds Inv-loop μ-loop
-loop-holds c = between-first (c .before .before .before .pre)
-
-returns : tie.Need-returns Inv-loop μ-loop
-returns c =
-    let here = c .before .before .before in
-    between-full (here .before .before .before .before .pre) (here .loop .inv) (c .if1 .taken)
+cut-requires-2 : tie.Need-cut-requires-2 Inv-loop μ-loop
+cut-requires-2 c κs =
+    let at-size = c .before in
+    cut-words (at-size .before .before .before .before .before .loop .inv .cut) (omega arith) (at-size .size .ensures)
 
 with-track-requires : tie.Need-with-track-requires Inv-loop μ-loop
 with-track-requires c κs =
-    let here = c .before .before .before .before .before .before .before in (
-      omega (arith, here .loop .inv .few, c .before .before .before .before .if1 .left),
-      track-here (here .before .before .before .before .pre) (here .loop .inv) _ (ap (_+_ _) (c .before .before .wide .ensures)) (omega arith),
-    )
+    let at-cut = c .before in
+    let at-if1 = at-cut .before .before .before in
+    let at-loop = at-if1 .before .before .before in
+    let known = at-loop .before .before .before .before .pre in
+    rw (c .cut2 .ensures, at-cut .cut .ensures, at-cut .before .size .ensures)
+    (omega (arith, at-loop .loop .inv .few, at-if1 .if1 .left), cut-track known (at-loop .loop .inv .cut) (omega arith))
 
 loop-again : tie.Need-loop-again Inv-loop μ-loop
 loop-again c =
-    let read = c .before .before .before in
-    let here = read .before .before .before .before .before in
-    rw (c .with-track .ensures)
-    (between-next (here .before .before .before .before .pre) (here .loop .inv) _ (ap (_+_ _) (read .wide .ensures)) (omega arith) (read .before .before .if1 .left))
-
-returns-2 : tie.Need-returns-2 Inv-loop μ-loop
-returns-2 c = between-end (c .before .before .before .before .before .pre) (c .before .loop .inv) (omega arith)
+    let at-cut = c .before .before in
+    let at-if1 = at-cut .before .before .before in
+    let at-loop = at-if1 .before .before .before in
+    rw (c .with-track .ensures, c .before .cut2 .ensures, at-cut .cut .ensures, at-cut .before .size .ensures)
+    (between-next (at-loop .loop .inv) (omega arith) (at-if1 .if1 .left))
 
 pub end-of-piece-spec : {M : Type 1} → statement M
 end-of-piece-spec =
@@ -58,22 +45,16 @@ end-of-piece-spec =
     (tie.spec
     Inv-loop
     μ-loop
-    loop-holds
-    returns
+    (λ c. between-first (c .before .before .before .pre))
+    (λ c. between-full (c .before .before .before .loop .inv) (c .if1 .taken))
     (λ c. omega arith)
     (λ c. omega arith)
     (λ c κs. search needs)
-    (λ c. omega (arith, fits c))
-    (λ c. omega (arith, fits c))
-    (λ c. omega (arith, fits c))
-    (λ c. omega (arith, fits c))
-    (λ c. omega (arith, fits c))
-    (λ c. omega (arith, fits (c .before)))
-    (λ c. omega (arith, fits (c .before)))
-    (λ c. omega (arith, fits (c .before)))
-    (λ c. omega (arith, fits (c .before), same-length c))
+    (λ c. omega (arith, cut-deltas (c .before .before .before .before .before .loop .inv .cut) (omega arith) (c .size .ensures) .1))
+    cut-requires
+    cut-requires-2
     with-track-requires
     (λ c. omega arith)
     (λ c. omega arith)
     loop-again
-    returns-2)
+    (λ c. between-end (c .before .loop .inv) (omega arith)))

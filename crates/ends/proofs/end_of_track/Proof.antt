@@ -38,6 +38,12 @@ returns c =
     let here = c .before .before in
     c .end-of .ensures ∙ midway-end (here .before .before .before .pre) (omega arith) (here .loop .inv)
 
+shared-slice-read-step-2 : tie.Need-shared-slice-read-step-2 Inv-loop μ-loop
+shared-slice-read-step-2 c =
+    let at-loop = c .before .before .before .before in
+    let at-start = at-loop .before .before .before in
+    omega (arith, at-start .pre .same)
+
 pub end-of-track-spec : {M : Type 1} → statement M
 end-of-track-spec =
     tie.close
@@ -48,7 +54,7 @@ end-of-track-spec =
     (λ c. omega arith)
     (λ c. omega arith)
     (λ c. omega arith)
-    (λ c. omega (arith, c .before .before .before .before .before .before .before .pre .same))
+    shared-slice-read-step-2
     step-requires
     (λ c. omega arith)
     (λ c. omega arith)

@@ -17,15 +17,20 @@ abbrev μ-loop : tie.MeasureT-loop
 
 returns : tie.Need-returns Inv-loop μ-loop
 returns c =
-    let start = c .before .before .before .before .before .before .before in
-    let here = c .before .before .before .before .loop in
+    let at-loop = c .before .before .before .before in
+    let start = at-loop .before .before .before in
+    let here = at-loop .loop in
     let one = any-here (start .args .words .now) (here .i) (omega arith) in
-    sym (notes-words 0 0 (start .args .deltas .now) (start .args .words .now) (start .pre .same) ∙ sym (here .inv .1) ∙ one ∙ rw (sym (c .before .is-on .ensures) ∙ c .if1 .taken))
+    sym (notes-words 0 0 (start .args .deltas .now) (start .args .words .now) (start .pre .same)
+    ∙ sym (here .inv .1)
+    ∙ one
+    ∙ rw (sym (c .before .is-on .ensures) ∙ c .if1 .taken))
 
 loop-again : tie.Need-loop-again Inv-loop μ-loop
 loop-again c =
-    let start = c .before .before .before .before .before .before .before in
-    let here = c .before .before .before .before .loop in
+    let at-loop = c .before .before .before .before in
+    let start = at-loop .before .before .before in
+    let here = at-loop .loop in
     let one = any-here (start .args .words .now) (here .i) (omega arith) in
     let off = sym (c .before .is-on .ensures) ∙ c .if1 .left in
     (omega arith, sym (rw off at one) ∙ here .inv .1)
@@ -36,7 +41,9 @@ returns-2 c =
     let start = c .before .before .before .before in
     let here = c .before .loop in
     let all : length (start .args .words .now) ≤ here .i = omega arith in
-    sym (notes-words 0 0 (start .args .deltas .now) (start .args .words .now) (start .pre .same) ∙ sym (here .inv .1) ∙ rw (drop-of-length-le (start .args .words .now) all))
+    sym (notes-words 0 0 (start .args .deltas .now) (start .args .words .now) (start .pre .same)
+    ∙ sym (here .inv .1)
+    ∙ rw (drop-of-length-le (start .args .words .now) all))
 
 pub has-notes-spec : {M : Type 1} → statement M
 has-notes-spec =

@@ -25,15 +25,21 @@ loop-holds c =
     (omega arith, rw (drop-of-length-le (start .args .words .now) all))
 
 -- no note starts at the event gone back to
-back : (c : tie.Else1 Inv-loop μ-loop) → any isOn (drop (c .before .before .before .before .loop .i - 1) (c .before .before .before .before .before .before .before .args .words .now)) ≡ false
+back : (c : tie.Else1 Inv-loop μ-loop) →
+    let at-loop = c .before .before .before .before in
+    any isOn (drop (at-loop .loop .i - 1) (at-loop .before .before .before .args .words .now)) ≡ false
 back c =
-    let here = c .before .before .before .before .loop in
-    any-back (c .before .before .before .before .before .before .before .args .words .now) (here .i) (omega arith) (omega (arith, here .inv .0, c .before .before .before .before .before .before .before .pre .same)) (sym (c .before .is-on .ensures) ∙ c .if1 .left) (here .inv .1)
+    let at-loop = c .before .before .before .before in
+    let at-start = at-loop .before .before .before in
+    let here = at-loop .loop in
+    any-back (at-start .args .words .now) (here .i) (omega arith) (omega (arith, here .inv .0, at-start .pre .same))
+    (sym (c .before .is-on .ensures) ∙ c .if1 .left) (here .inv .1)
 
 returns-2 : tie.Need-returns-2 Inv-loop μ-loop
 returns-2 c t =
-    let here = c .before .before .before .before .before .before .loop in
-    let start = c .before .before .before .before .before .before .before .before .before in
+    let at-loop = c .before .before .before .before .before .before in
+    let start = at-loop .before .before .before in
+    let here = at-loop .loop in
     let h : here .i - 1 < length (start .args .deltas .now) = omega (arith, here .inv .0) in
     ends-late (start .pre) (here .i - 1) (back (c .before .before)) (omega (arith, sum-left (start .args .deltas .now) (here .i - 1) h, c .if2 .taken))
 

@@ -9,16 +9,26 @@ use Rattle.ends.proofs.with_track.Tie as tie
 
 returns : tie.Need-returns
 returns c =
-    let es = eventsOf (c .before .before .before .before .before .before .before .args .deltas .now) (c .before .before .before .before .before .before .before .args .words .now) in
-    taken-covered _ (trackEnd es) (sym (has-end es) ∙ sym (c .before .before .has-notes .ensures) ∙ c .before .if2 .taken) (c .before .before .before .before .covered .ensures (c .before .before .before .if1 .taken))
+    let at-covered = c .before .before .before .before in
+    let at-start = at-covered .before .before .before in
+    let es = eventsOf (at-start .args .deltas .now) (at-start .args .words .now) in
+    taken-covered _ (trackEnd es) (sym (has-end es) ∙ sym (c .before .before .has-notes .ensures) ∙ c .before .if2 .taken)
+    (at-covered .covered .ensures (c .before .before .before .if1 .taken))
 
 returns-2 : tie.Need-returns-2
 returns-2 c =
-    let es = eventsOf (c .before .before .before .before .before .before .args .deltas .now) (c .before .before .before .before .before .before .args .words .now) in
+    let at-start = c .before .before .before .before .before .before in
+    let es = eventsOf (at-start .args .deltas .now) (at-start .args .words .now) in
     taken-none _ (trackEnd es) (sym (has-end es) ∙ sym (c .before .has-notes .ensures) ∙ c .if2 .left)
 
 returns-3 : tie.Need-returns-3
 returns-3 c = rw (sym (c .before .end-of-track .ensures)) (c .taken .ensures)
+
+add-t6 : tie.Need-add-t6
+add-t6 c =
+    let at-if1 = c .before .before .before in
+    let at-start = at-if1 .before .before .before .before in
+    omega (arith, at-start .pre .0)
 
 pub with-track-spec : {M : Type 1} → statement M
 with-track-spec =
@@ -26,7 +36,7 @@ with-track-spec =
     (tie.spec
     (λ c κs. c .before .before .pre .1)
     (λ c κs. c .before .before .before .before .pre .1)
-    (λ c. omega (arith, c .before .before .before .before .before .before .before .pre .0))
+    add-t6
     returns
     returns-2
     (λ c κs. c .before .before .before .before .pre .1)

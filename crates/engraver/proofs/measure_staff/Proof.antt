@@ -1,19 +1,20 @@
 -- `measure_staff`: the staff is counted, and no output is written.
-use native.Mathlib.Omega.{arith}
 use borrow.Author.Needs.{needs}
 use Rattle.engraver.proofs.Outcomes.{no-room}
-use Rattle.engraver.proofs.PartVoices.{quarter-is, table-is}
+use Rattle.engraver.proofs.Tables.{quarter-is, table-is}
 use Rattle.engraver.proofs.measure_staff.Statement.{statement}
 use Rattle.engraver.proofs.measure_staff.Tie as tie
 
 transcribe-track-requires : tie.Need-transcribe-track-requires
 transcribe-track-requires c κs =
-    let pre = c .before .before .before .before .before .before .before .before .pre in
-    rw (c .before .before .before .before .note-values .ensures) (table-is _ (pre .1), rw (quarter-is _) (pre .0), omega arith, pre .2, no-room _ _ _ _)
+    let at-values = c .before .before .before .before in
+    let pre = at-values .before .before .before .before .pre in
+    rw (at-values .note-values .ensures) (table-is _ (pre .1), rw (quarter-is _) (pre .0), pre .2, pre .3, no-room _ _ _ _)
 
 returns : tie.Need-returns
 returns c =
-    let size = rw (c .before .before .before .before .before .before .before .before .note-values .ensures, quarter-is _) at (c .before .before .before .transcribe-track .ensures) in
+    let at-staff = c .before .before .before in
+    let size = rw (at-staff .before .before .before .before .before .note-values .ensures, quarter-is _) at (at-staff .transcribe-track .ensures) in
     rw (size .bars, size .items)
 
 pub measure-staff-spec : {M : Type 1} → statement M

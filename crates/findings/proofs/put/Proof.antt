@@ -6,10 +6,13 @@ use Rattle.findings.proofs.put.Tie as tie
 
 returns : tie.Need-returns
 returns c =
+    let at-store2 = c .before .before in
+    let at-store = at-store2 .before .before .before .before in
+    let at-detail = at-store .before .before in
     record {
       count = omega arith;
-      places = rw (c .before .before .before .before .before .before .before .before .before .place .ensures) at (c .before .before .before .before .before .before .store .ensures);
-      details = rw (c .before .before .before .before .before .before .before .before .detail .ensures) at (c .before .before .store2 .ensures);
+      places = rw (at-detail .before .place .ensures) at (at-store .store .ensures);
+      details = rw (at-detail .detail .ensures) at (at-store2 .store2 .ensures);
     }
 
 pub put-spec : {M : Type 1} → statement M

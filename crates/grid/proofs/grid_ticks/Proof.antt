@@ -18,8 +18,9 @@ loop-holds c = counting-start _ _ _
 
 loop-again : tie.Need-loop-again Inv-loop μ-loop
 loop-again c =
+    let at-loop = c .before .before .before .before in
     rw (c .count-start .ensures)
-    (counting-more (c .before .before .before .before .loop .inv) (c .before .before .before .before .before .before .before .pre) (omega arith))
+    (counting-more (at-loop .loop .inv) (at-loop .before .before .before .pre) (omega arith))
 
 returns : tie.Need-returns Inv-loop μ-loop
 returns c =

@@ -1,71 +1,52 @@
--- `heads::head` meets its contract: the head is read off the first track.
+-- `head`: the head is read off the first track.
 use borrow.Author.Needs.{needs}
-use mathlib.Core.Path.{sym, ap, subst, _∙_}
-use native.Mathlib.Omega.{arith}
-use Rattle.rules.specs.Changes.{headIn}
+use mathlib.Core.Path.{sym, ap, _∙_}
 use Rattle.rules.specs.Piece.{piece, firstTrack}
-use Rattle.rules.specs.Refusals.{given}
+use Rattle.rules.specs.Refusals.{given, noteRefusals}
 use Rattle.laws.proofs.Refusals.{passes-given}
-use Rattle.changes.specs.Heads.{HeadIs}
-use Rattle.piece.specs.Spans.{IsSpan}
-use Rattle.piece.proofs.Cuts.{span-track}
-use Rattle.entering.proofs.Door.{door-stops, door-passes, door-admits}
+use Rattle.tracks.specs.Spans.{IsSpan}
+use Rattle.tracks.proofs.Cuts.{span-track}
+use Rattle.opening.proofs.Opening.{refuses-last, notes-pass, notes-admitted, cut-deltas, cut-words}
 use Rattle.heads.proofs.Heads.{head-given}
 use Rattle.heads.proofs.head.Statement.{statement}
 use Rattle.heads.proofs.head.Tie as tie
 
 -- where the first track stands
 span : (c : tie.After-first-track)
-    → IsSpan (c .before .before .before .before .before .before .before .args .deltas .now)
-    (c .before .before .before .before .before .before .before .args .words .now)
-    (firstTrack (piece (c .before .before .before .before .before .before .before .args .sizes .now)
-    (c .before .before .before .before .before .before .before .args .deltas .now)
-    (c .before .before .before .before .before .before .before .args .words .now))) (c .first-track .result)
-span c = c .first-track .ensures _ _ (door-admits _ (c .before .before .before .enter .ensures) (c .before .if1 .left) .sizes)
+    → let at-open = c .before .before .before in
+    let a = at-open .before .before .before .before .args in
+    IsSpan (a .deltas .now) (a .words .now) (firstTrack (piece (a .sizes .now) (a .deltas .now) (a .words .now))) (c .first-track .result)
+span c =
+    let at-if1 = c .before in
+    c .first-track .ensures _ _ (notes-admitted _ (at-if1 .before .before .open-notes .ensures) (at-if1 .if1 .left) .sizes)
 
 returns : tie.Need-returns
 returns c =
-    record { answered = sym (door-stops _ (c .before .before .enter .ensures) _ (c .if1 .taken)); absent = tt }
-
-mul-read-head : tie.Need-mul-read-head
-mul-read-head c = omega (arith, span c .order, span c .deltas)
-
-sub-read-head : tie.Need-sub-read-head
-sub-read-head c = omega (arith, span c .order, span c .deltas)
-
-part-read-head-start : tie.Need-part-read-head-start
-part-read-head-start c = omega (arith, span c .order, span c .deltas)
-
-part-read-head-end : tie.Need-part-read-head-end
-part-read-head-end c = omega (arith, span c .order, span c .deltas)
-
-mul-read-head-2 : tie.Need-mul-read-head-2
-mul-read-head-2 c = omega (arith, span (c .before) .order, span (c .before) .words)
-
-sub-read-head-2 : tie.Need-sub-read-head-2
-sub-read-head-2 c = omega (arith, span (c .before) .order, span (c .before) .words)
-
-part-read-head-start-2 : tie.Need-part-read-head-start-2
-part-read-head-start-2 c = omega (arith, span (c .before) .order, span (c .before) .words)
-
-part-read-head-end-2 : tie.Need-part-read-head-end-2
-part-read-head-end-2 c = omega (arith, span (c .before) .order, span (c .before) .words)
+    record {
+      answered = sym (refuses-last (noteRefusals _) (c .before .before .open-notes .ensures .number) (c .if1 .taken) _);
+      absent = tt;
+    }
 
 read-head-requires : tie.Need-read-head-requires
 read-head-requires c κs =
-    span-track _ (door-admits _ (c .before .before .before .before .before .enter .ensures) (c .before .before .before .if1 .left)) (span (c .before .before))
+    let at-track = c .before .before in
+    let at-if1 = at-track .before in
+    rw (c .before .cut .ensures, c .cut2 .ensures)
+    (span-track _ (notes-admitted _ (at-if1 .before .before .open-notes .ensures) (at-if1 .if1 .left)) (span at-track))
 
 returns-2 : tie.Need-returns-2
 returns-2 c =
-    let o = c .before .before .before in
-    let is = subst (λ es. HeadIs (headIn es) (c .read-head .result)) (span o .events) (c .read-head .ensures) in
+    let at-cut2 = c .before in
+    let at-track = at-cut2 .before .before in
+    let at-if1 = at-track .before in
+    let is = rw (at-cut2 .before .cut .ensures, at-cut2 .cut2 .ensures, span at-track .events) at (c .read-head .ensures) in
     record {
-      answered = ap given (head-given _ _ is) ∙ sym (passes-given _ _ (door-passes _ (o .before .before .before .enter .ensures) (o .before .if1 .left)));
+      answered = ap given (head-given _ _ is) ∙ sym (passes-given _ _ (notes-pass _ (at-if1 .before .before .open-notes .ensures) (at-if1 .if1 .left)));
       absent = λ z. (is .fifths z, is .minor z);
     }
 
 pub head-spec : {M : Type 1} → statement M
 head-spec =
     tie.close
-    (tie.spec (λ c κs. search needs) returns (λ c κs. search needs) mul-read-head sub-read-head part-read-head-start
-    part-read-head-end mul-read-head-2 sub-read-head-2 part-read-head-start-2 part-read-head-end-2 read-head-requires returns-2)
+    (tie.spec (λ c κs. search needs) returns (λ c κs. search needs) (λ c κs. cut-deltas (span c)) (λ c κs. cut-words (span (c .before)))
+    read-head-requires returns-2)

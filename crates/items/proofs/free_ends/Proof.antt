@@ -21,20 +21,24 @@ untie-requires c κs =
 
 sub-untie : tie.Need-sub-untie
 sub-untie c =
-    let t = some (c .before .before .before .before .before) in
-    let b = c .before .before .before .before .before .before .before .before .pre in
+    let at-if2 = c .before .before .before .before .before in
+    let t = some at-if2 in
+    let b = at-if2 .before .before .before .pre in
     omega (arith, b .order t)
 
 untie-requires-2 : tie.Need-untie-requires-2
 untie-requires-2 c κs =
-    let t = some (c .before .before .before .before .before) in
-    let b = c .before .before .before .before .before .before .before .before .pre in
-    rw (c .before .before .before .untie .ensures) (let s = still-tied b t (c .before .before .before .before .before .before .before .before .args .tie-in) in (s .0, λ e. s .1))
+    let at-if2 = c .before .before .before .before .before in
+    let at-start = at-if2 .before .before .before in
+    let t = some at-if2 in
+    let b = at-start .pre in
+    rw (c .before .before .before .untie .ensures) (let s = still-tied b t (at-start .args .tie-in) in (s .0, λ e. s .1))
 
 returns : tie.Need-returns
 returns c =
-    let t = some (c .before .before .before .before .before .before .before .before) in
-    rw t (c .before .before .untie2 .ensures ∙ rw (c .before .before .before .before .before .before .untie .ensures))
+    let at-untie = c .before .before .before .before .before .before in
+    let t = some (at-untie .before .before) in
+    rw t (c .before .before .untie2 .ensures ∙ rw (at-untie .untie .ensures))
 
 returns-2 : tie.Need-returns-2
 returns-2 c = ⊎-elim (λ w. rw (w .0 .taken, w .1 .left)) (λ w. rw (w .left)) (c .if1 .came)

@@ -12,15 +12,18 @@ split-span-requires c κs =
 
 push-keys-requires : tie.Need-push-keys-requires
 push-keys-requires c κs =
-    let pre = c .before .before .before .before .before .before .before .before .pre in
+    let at-if1 = c .before .before .before .before .before in
+    let pre = at-if1 .before .before .before .pre in
     let next = c .before .before .before .split-span .ensures _ (pre .0 .some-ticks) (pre .0 .is) .next in
-    (omega arith, omega (arith, pre .2 .keys-fit (c .before .before .before .before .before .if1 .taken)))
+    (omega arith, omega (arith, pre .2 .keys-fit (at-if1 .if1 .taken)))
 
 returns : tie.Need-returns
 returns c =
-    let pre = c .before .before .before .before .before .before .before .before .before .before .before .pre in
-    let split = c .before .before .before .before .before .before .split-span .ensures _ (pre .0 .some-ticks) (pre .0 .is) in
-    rw (c .before .before .before .before .before .before .before .before .if1 .taken) (span-written (pre .0) split (c .before .before .push-keys .ensures))
+    let at-split-span = c .before .before .before .before .before .before in
+    let at-start = at-split-span .before .before .before .before .before in
+    let pre = at-start .pre in
+    let split = at-split-span .split-span .ensures _ (pre .0 .some-ticks) (pre .0 .is) in
+    rw (at-split-span .before .before .if1 .taken) (span-written (pre .0) split (c .before .before .push-keys .ensures))
 
 add-result : tie.Need-add-result
 add-result c =

@@ -2,34 +2,55 @@
 use native.Mathlib.Omega.{arith}
 use borrow.Author.Needs.{needs}
 use Rattle.rules.specs.Piece.{piece, firstTrack}
-use Rattle.piece.specs.Spans.{IsSpan}
-use Rattle.piece.proofs.Cuts.{span-track}
-use Rattle.piece.proofs.Ranges.{quarter-fits}
+use Rattle.tracks.specs.Spans.{IsSpan}
+use Rattle.tracks.proofs.Cuts.{span-track}
+use Rattle.tracks.proofs.Ranges.{quarter-fits}
 use Rattle.loss_diagnostics.proofs.FirstTrack.{first-searchable, off-found}
 use Rattle.loss_diagnostics.proofs.find_off_measure.Statement.{statement}
 use Rattle.loss_diagnostics.proofs.find_off_measure.Tie as tie
 
+abbrev start-of-first-track : tie.After-first-track → tie.Start
+start-of-first-track c =
+    let at-ticks-per-quarter = c .before in
+    at-ticks-per-quarter .before .before .before .before .before .before
+
 -- where the first track stands
 span : (c : tie.After-first-track)
-    → IsSpan (c .before .before .before .before .before .before .before .args .deltas .now) (c .before .before .before .before .before .before .before .args .words .now)
-    (firstTrack (piece (c .before .before .before .before .before .before .before .args .sizes .now) (c .before .before .before .before .before .before .before .args .deltas .now) (c .before .before .before .before .before .before .before .args .words .now))) (c .first-track .result)
-span c = c .first-track .ensures _ _ (c .before .before .before .before .before .before .before .pre .0 .sizes)
+    →
+    let at-start = start-of-first-track c in
+    let given = at-start .args in
+    IsSpan (given .deltas .now) (given .words .now) (firstTrack (piece (given .sizes .now) (given .deltas .now) (given .words .now)))
+    (c .first-track .result)
+span c =
+    let at-start = start-of-first-track c in
+    c .first-track .ensures _ _ (at-start .pre .0 .sizes)
 
 first-meter-length-requires : tie.Need-first-meter-length-requires
 first-meter-length-requires c κs =
-    let f = c .before in
-    let known = f .before .before .before .before .before .before .before .pre .0 in
-    (omega (arith, f .before .ticks-per-quarter .ensures, quarter-fits _ known), span-track _ known (span f) .formed)
+    let at-first = c .before .before in
+    let at-start = start-of-first-track at-first in
+    let known = at-start .pre .0 in
+    rw (c .cut2 .ensures)
+    (omega (arith, at-first .before .ticks-per-quarter .ensures, quarter-fits _ known), span-track _ known (span at-first) .formed)
 
 find-events-requires : tie.Need-find-events-requires
-find-events-requires c κs = let f = c .before .before .before .before .before .before in first-searchable _ (f .before .before .before .before .before .before .before .pre .0) (span f) (f .before .before .before .before .before .before .before .pre .1)
+find-events-requires c κs =
+    let at-cut2 = c .before .before .before in
+    let at-first = at-cut2 .before .before in
+    let at-start = start-of-first-track at-first in
+    let pre = at-start .pre in
+    rw (at-cut2 .before .cut .ensures, at-cut2 .cut2 .ensures) (first-searchable _ (pre .0) (span at-first) (pre .1))
 
 returns : tie.Need-returns
 returns c =
-    let e = c .before .before .before .before in
-    let l = e .before .before .before .before .before in
-    let f = l .before .before in
-    off-found _ (f .before .before .before .before .before .before .before .pre .0) (span f) (f .before .ticks-per-quarter .ensures) (l .first-meter-length .ensures) (e .find-events .ensures)
+    let at-found = c .before .before .before .before in
+    let at-length = at-found .before .before .before in
+    let at-cut2 = at-length .before in
+    let at-first = at-cut2 .before .before in
+    let at-start = start-of-first-track at-first in
+    off-found _ (at-start .pre .0) (span at-first) (at-first .before .ticks-per-quarter .ensures)
+    (rw (at-cut2 .cut2 .ensures) at (at-length .first-meter-length .ensures))
+    (rw (at-cut2 .before .cut .ensures, at-cut2 .cut2 .ensures) at (at-found .find-events .ensures))
 
 pub find-off-measure-spec : {M : Type 1} → statement M
 find-off-measure-spec =
@@ -37,19 +58,9 @@ find-off-measure-spec =
     (tie.spec
     (λ c κs. search needs)
     (λ c κs. search needs)
-    (λ c. omega (arith, span c .order, span c .words))
-    (λ c. omega (arith, span c .order, span c .words))
-    (λ c. omega (arith, span c .order, span c .words))
-    (λ c. omega (arith, span c .order, span c .words))
+    (λ c κs. (span c .order, span c .deltas))
+    (λ c κs. (span (c .before) .order, span (c .before) .words))
     first-meter-length-requires
-    (λ c. omega (arith, span (c .before .before) .order, span (c .before .before) .deltas))
-    (λ c. omega (arith, span (c .before .before) .order, span (c .before .before) .deltas))
-    (λ c. omega (arith, span (c .before .before) .order, span (c .before .before) .deltas))
-    (λ c. omega (arith, span (c .before .before) .order, span (c .before .before) .deltas))
-    (λ c. omega (arith, span (c .before .before .before) .order, span (c .before .before .before) .words))
-    (λ c. omega (arith, span (c .before .before .before) .order, span (c .before .before .before) .words))
-    (λ c. omega (arith, span (c .before .before .before) .order, span (c .before .before .before) .words))
-    (λ c. omega (arith, span (c .before .before .before) .order, span (c .before .before .before) .words))
     find-events-requires
     (λ c. search needs)
     (λ c. search needs)

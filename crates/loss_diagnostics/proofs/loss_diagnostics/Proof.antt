@@ -6,8 +6,11 @@ use Rattle.loss_diagnostics.proofs.loss_diagnostics.Tie as tie
 
 returns : tie.Need-returns
 returns c =
-    let pre = c .before .before .before .before .before .before .before .before .before .before .before .before .before .before .before .before .pre in
-    let all = c .before .before .before .before .before .before .find-all .ensures .found in
+    let at-find-all = c .before .before .before .before .before .before in
+    let at-slice-known2 = at-find-all .before .before .before .before .before in
+    let at-start = at-slice-known2 .before .before .before .before .before in
+    let pre = at-start .pre in
+    let all = at-find-all .find-all .ensures .found in
     (places-written all (pre .1), details-written all (pre .2))
 
 pub loss-diagnostics-spec : {M : Type 1} → statement M

@@ -3,8 +3,9 @@ use Prim.Native.Nat.{_-_}
 use native.Mathlib.Omega.{arith}
 use lib.ListN.{length}
 use Rattle.rules.specs.Diagnostics.{systemFound}
+use Rattle.tracks.proofs.Cuts.{cut-deltas, cut-words}
 use Rattle.findings.proofs.Putting.{places-kept, details-kept}
-use Rattle.loss_diagnostics.proofs.Walking.{Walking, walking-start, Ahead, walking-ahead, walking-fits, walking-track, walking-long, walking-number, walking-next, walking-end}
+use Rattle.loss_diagnostics.proofs.Walking.{Walking, walking-start, walking-searchable, walking-next, walking-end}
 use Rattle.loss_diagnostics.proofs.system_events.Statement.{statement}
 use Rattle.loss_diagnostics.proofs.system_events.Tie as tie
 
@@ -15,28 +16,31 @@ Inv-loop sizes deltas words at places₀ details₀ next₀ from₀ i₀ places 
 abbrev μ-loop : tie.MeasureT-loop
 μ-loop sizes deltas words at places₀ details₀ next₀ from₀ i₀ places details next from i = length sizes - i
 
--- the track's events are within the arrays
-ahead : (c : tie.After-size Inv-loop μ-loop)
-    → Ahead (c .before .before .before .loop .from) (c .size .result) (c .before .before .before .loop .i) (c .before .before .before .before .before .before .before .before .before .args .deltas .now) (c .before .before .before .before .before .before .before .before .before .args .words .now)
-ahead c = walking-ahead (c .before .before .before .before .before .before .before .before .before .pre .0) (c .before .before .before .loop .inv) (omega arith) (c .size .ensures)
+cut-requires : tie.Need-cut-requires Inv-loop μ-loop
+cut-requires c κs = cut-deltas (c .before .before .before .loop .inv .cut) (omega arith) (c .size .ensures)
+
+cut-requires-2 : tie.Need-cut-requires-2 Inv-loop μ-loop
+cut-requires-2 c κs = let at-size = c .before in cut-words (at-size .before .before .before .loop .inv .cut) (omega arith) (at-size .size .ensures)
 
 find-events-requires : tie.Need-find-events-requires Inv-loop μ-loop
 find-events-requires c κs =
-    let pre = c .before .before .before .before .before .before .before .before .before .before .before .before .before .pre in
-    let inv = c .before .before .before .before .before .before .before .loop .inv in
-    rw (c .before .before .before .before .size .ensures)
-    (record {
-      events = walking-track (pre .0) inv (omega arith);
-      numbered = walking-number (pre .0) inv (omega arith);
-      room = omega (arith, inv .few, walking-long (pre .0) inv (omega arith), walking-fits (pre .0) inv (omega arith), pre .1);
-    })
+    let at-cut2 = c .before .before in
+    let at-size = at-cut2 .before .before in
+    let at-loop = at-size .before .before .before in
+    let pre = at-loop .before .before .before .before .before .before .pre in
+    rw (at-cut2 .before .cut .ensures, at-cut2 .cut2 .ensures)
+    (rw (at-size .size .ensures) (walking-searchable (pre .0) (at-loop .loop .inv) (omega arith) (pre .1)))
 
 loop-again : tie.Need-loop-again Inv-loop μ-loop
 loop-again c =
-    let e = c .before .before .before .before in
-    let size = e .before .before .before .before .before in
-    let o = size .before .before .before in
-    rw (size .size .ensures) (walking-next (o .before .before .before .before .before .before .pre .0) (o .loop .inv) (omega arith) (rw (size .size .ensures) at (e .find-events .ensures)))
+    let at-found = c .before .before .before .before in
+    let at-cut2 = at-found .before .before .before in
+    let at-size = at-cut2 .before .before in
+    let at-loop = at-size .before .before .before in
+    let found = rw (at-cut2 .before .cut .ensures, at-cut2 .cut2 .ensures) at (at-found .find-events .ensures) in
+    rw (at-size .size .ensures)
+    (walking-next (at-loop .before .before .before .before .before .before .pre .0) (at-loop .loop .inv) (omega arith)
+    (rw (at-size .size .ensures) at found))
 
 pub system-events-spec : {M : Type 1} → statement M
 system-events-spec =
@@ -48,20 +52,14 @@ system-events-spec =
     (λ c. omega arith)
     (λ c. omega arith)
     (λ c κs. tt)
-    (λ c. omega (arith, ahead c .deltas))
-    (λ c. omega (arith, ahead c .number))
-    (λ c. omega (arith, ahead c .deltas))
-    (λ c. omega (arith, ahead c .deltas))
-    (λ c. omega (arith, ahead c .deltas))
-    (λ c. omega (arith, ahead c .deltas))
-    (λ c. omega (arith, ahead (c .before) .words))
-    (λ c. omega (arith, ahead (c .before) .words))
-    (λ c. omega (arith, ahead (c .before) .words))
-    (λ c. omega (arith, ahead (c .before) .words))
+    (λ c. omega (arith, cut-deltas (c .before .before .before .loop .inv .cut) (omega arith) (c .size .ensures) .1))
+    (λ c. omega (arith, c .before .before .before .loop .inv .behind))
+    cut-requires
+    cut-requires-2
     find-events-requires
     (λ c. omega arith)
     (λ c. omega arith)
     loop-again
     (λ c. places-kept (c .before .loop .inv .found))
     (λ c. details-kept (c .before .loop .inv .found))
-    (λ c. walking-end (c .before .before .before .before .before .before .before .pre .0) (c .before .loop .inv) (omega arith)))
+    (λ c. let at-loop = c .before in walking-end (at-loop .before .before .before .before .before .before .pre .0) (at-loop .loop .inv) (omega arith)))

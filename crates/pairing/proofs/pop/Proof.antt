@@ -6,10 +6,13 @@ use Rattle.pairing.proofs.pop.Statement.{statement}
 use Rattle.pairing.proofs.pop.Tie as tie
 
 cast-heads : tie.Need-cast-heads
-cast-heads c = rw (c .before .wide .ensures) (omega (arith, queued-leads (c .before .before .before .before .pre)))
+cast-heads c = rw (c .before .size .ensures) (omega (arith, queued-leads (c .before .before .before .before .pre)))
 
 returns : tie.Need-returns
-returns c t m ps q = let p = c .before .before .before .before .before .before .pre in rw (c .before .before .before .wide .ensures) (popped q (p .channel) (p .key) (p .full))
+returns c t m ps q =
+    let at-start = c .before .before .before .before .before .before in
+    let p = at-start .pre in
+    rw (c .before .before .before .size .ensures) (popped q (p .channel) (p .key) (p .full))
 
 pub pop-spec : {M : Type 1} → statement M
 pop-spec =

@@ -1,6 +1,6 @@
 use Rattle.piece_text.proofs.Large.{same-count, other-count}
 use Rattle.piece_text.specs.Held.{mostCounted}
-use Rattle.piece.proofs.Numbers.{agrees, disagrees, number-one, number-two, number-three}
+use Rattle.admission.proofs.Numbers.{agrees, disagrees, number-one, number-two, number-three}
 use Rattle.laws.proofs.Loops.{take-rest}
 use Rattle.rules.specs.Piece.{piece, sizesAgree}
 use Rattle.rules.specs.Lists.{sum}

@@ -8,16 +8,8 @@ pub sharp-name-spec : {M : Type 1} → statement M
 sharp-name-spec =
     tie.close
     (tie.spec
-    (λ c. name-at sharpNames 0 (c .match .keys1))
-    (λ c. name-at sharpNames 1 (c .match .keys2))
-    (λ c. name-at sharpNames 2 (c .match .keys3))
-    (λ c. name-at sharpNames 3 (c .match .keys4))
-    (λ c. name-at sharpNames 4 (c .match .keys5))
-    (λ c. name-at sharpNames 5 (c .match .keys6))
-    (λ c. name-at sharpNames 6 (c .match .keys7))
-    (λ c. name-at sharpNames 7 (c .match .keys8))
-    (λ c. name-at sharpNames 8 (c .match .keys9))
-    (λ c. name-at sharpNames 9 (c .match .keys10))
-    (λ c. name-at sharpNames 10 (c .match .keys11))
-    (λ c. name-at sharpNames 11 (c .match .keys12))
+    (λ c. name-at sharpNames 0 (c .match .keys1)) (λ c. name-at sharpNames 1 (c .match .keys2)) (λ c. name-at sharpNames 2 (c .match .keys3))
+    (λ c. name-at sharpNames 3 (c .match .keys4)) (λ c. name-at sharpNames 4 (c .match .keys5)) (λ c. name-at sharpNames 5 (c .match .keys6))
+    (λ c. name-at sharpNames 6 (c .match .keys7)) (λ c. name-at sharpNames 7 (c .match .keys8)) (λ c. name-at sharpNames 8 (c .match .keys9))
+    (λ c. name-at sharpNames 9 (c .match .keys10)) (λ c. name-at sharpNames 10 (c .match .keys11)) (λ c. name-at sharpNames 11 (c .match .keys12))
     (λ c. name-past sharpNames (c .before .args .pc) (c .match .rest)))

@@ -6,10 +6,14 @@ use Rattle.proofread_items.proofs.close_chord.Statement.{statement}
 use Rattle.proofread_items.proofs.close_chord.Tie as tie
 
 check-chord-requires : tie.Need-check-chord-requires
-check-chord-requires c κs = (c .before .before .before .before .pre .0, c .before .before .before .before .pre .1 .within, c .before .before .before .before .pre .1 .before)
+check-chord-requires c κs =
+    let at-start = c .before .before .before .before in
+    (at-start .pre .0, at-start .pre .1 .within, at-start .pre .1 .before)
 
 returns : tie.Need-returns
-returns c = closes-chord (c .before .before .before .before .before .before .before .pre .0) (c .before .before .before .before .before .if1 .taken) (c .before .before .check-chord .ensures) refl refl
+returns c =
+    let at-if1 = c .before .before .before .before .before in
+    closes-chord (at-if1 .before .before .pre .0) (at-if1 .if1 .taken) (c .before .before .check-chord .ensures) refl refl
 
 returns-2 : tie.Need-returns-2
 returns-2 c = closes-none (c .if1 .left) (c .before .before .pre .2) (c .before .before .pre .1)

@@ -11,7 +11,9 @@ returns-2 : tie.Need-returns-2
 returns-2 c = rw (c .before .before .before .before .if1 .taken, high-some _ _ (c .if3 .taken) .0)
 
 returns-3 : tie.Need-returns-3
-returns-3 c = rw (c .before .before .before .before .before .if1 .taken, none-is _ _ (c .before .before .before .if2 .left) (c .before .if3 .left)) (c .unmarked .ensures)
+returns-3 c =
+    let at-if1 = c .before .before .before .before .before in
+    rw (at-if1 .if1 .taken, none-is _ _ (c .before .before .before .if2 .left) (c .before .if3 .left)) (c .unmarked .ensures)
 
 returns-4 : tie.Need-returns-4
 returns-4 c = rw (c .before .before .if1 .left, low-some _ _ (c .if4 .taken) .1)

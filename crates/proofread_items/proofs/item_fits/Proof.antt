@@ -4,7 +4,10 @@ use Rattle.proofread_items.proofs.item_fits.Statement.{statement}
 use Rattle.proofread_items.proofs.item_fits.Tie as tie
 
 returns : tie.Need-returns
-returns c = rw (← c .before .before .before .before .is-value .ensures, c .before .before .before .if1 .taken, ← c .before .before .is-clean .ensures, c .before .if2 .taken) (c .meets .ensures)
+returns c =
+    let at-is-value = c .before .before .before .before in
+    rw (← at-is-value .is-value .ensures, c .before .before .before .if1 .taken, ← c .before .before .is-clean .ensures, c .before .if2 .taken)
+    (c .meets .ensures)
 
 returns-2 : tie.Need-returns-2
 returns-2 c = rw (← c .before .before .before .is-value .ensures, c .before .before .if1 .taken, ← c .before .is-clean .ensures, c .if2 .left)

@@ -9,16 +9,32 @@ use Rattle.proofread_items.proofs.take_item.Statement.{statement}
 use Rattle.proofread_items.proofs.take_item.Tie as tie
 
 ticks-of-requires : tie.Need-ticks-of-requires
-ticks-of-requires c κs = let a = c .before .before .before .args in (c .before .before .before .pre .3, fits-code (a .p) (tieOf (a .v)) (a .v) (a .i) (sym (c .before .item-fits .ensures) ∙ c .if1 .taken), c .before .before .before .pre .4)
+ticks-of-requires c κs =
+    let a = c .before .before .before .args in (
+      c .before .before .before .pre .3,
+      fits-code (a .p) (tieOf (a .v)) (a .v) (a .i) (sym (c .before .item-fits .ensures) ∙ c .if1 .taken),
+      c .before .before .before .pre .4,
+    )
 
 sound-requires : tie.Need-sound-requires
-sound-requires c κs = (c .before .before .before .before .before .before .pre .0, c .before .before .before .before .before .before .pre .1, c .before .before .before .before .before .before .pre .2)
+sound-requires c κs =
+    let at-start = c .before .before .before .before .before .before in
+    (at-start .pre .0, at-start .pre .1, at-start .pre .2)
 
 returns : tie.Need-returns
-returns c = let a = c .before .before .before .before .before .before .before .before .before .args in takes-fit (a .i) (a .v) (c .before .before .before .before .before .before .before .before .before .pre .2) (a .v .tick + c .before .before .before .before .before .ticks-of .result) (sym (c .before .before .before .before .before .before .before .item-fits .ensures) ∙ c .before .before .before .before .before .before .if1 .taken) (ap (λ (t : ℕ). a .v .tick + t) (c .before .before .before .before .before .ticks-of .ensures .0)) (omega (arith, c .before .before .before .before .before .ticks-of .ensures .1)) (c .before .before .sound .ensures) refl refl refl refl refl refl refl
+returns c =
+    let at-ticks-of = c .before .before .before .before .before in
+    let at-start = at-ticks-of .before .before .before .before in
+    let a = at-start .args in
+    takes-fit (a .i) (a .v) (at-start .pre .2) (a .v .tick + at-ticks-of .ticks-of .result)
+    (sym (at-ticks-of .before .before .item-fits .ensures) ∙ at-ticks-of .before .if1 .taken)
+    (ap (λ (t : ℕ). a .v .tick + t) (at-ticks-of .ticks-of .ensures .0)) (omega (arith, at-ticks-of .ticks-of .ensures .1))
+    (c .before .before .sound .ensures) refl refl refl refl refl refl refl
 
 returns-2 : tie.Need-returns-2
-returns-2 c = let a = c .before .before .before .args in takes-not (a .i) (a .v) (c .before .before .before .pre .2) (sym (c .before .item-fits .ensures) ∙ c .if1 .left) refl
+returns-2 c =
+    let a = c .before .before .before .args in
+    takes-not (a .i) (a .v) (c .before .before .before .pre .2) (sym (c .before .item-fits .ensures) ∙ c .if1 .left) refl
 
 pub take-item-spec : {M : Type 1} → statement M
 take-item-spec =

@@ -25,10 +25,18 @@ start-of-requires : tie.Need-start-of-requires Inv-loop μ-loop
 start-of-requires c κs = (c .before .before .before .pre, omega arith)
 
 returns : tie.Need-returns Inv-loop μ-loop
-returns c = let l = c .before .before .before .before .before .loop in every-fails _ _ (l .i) _ (l .inv) (c .before .before .before .before .loop-test .taken) (sym (rw (c .before .before .before .start-of .ensures .0) at (c .before .found .ensures)) ∙ not-true _ (c .if1 .taken))
+returns c =
+    let at-loop-test = c .before .before .before .before in
+    let l = at-loop-test .before .loop in
+    every-fails _ _ (l .i) _ (l .inv) (at-loop-test .loop-test .taken)
+    (sym (rw (c .before .before .before .start-of .ensures .0) at (c .before .found .ensures)) ∙ not-true _ (c .if1 .taken))
 
 loop-again : tie.Need-loop-again Inv-loop μ-loop
-loop-again c = let l = c .before .before .before .before .before .loop in every-goes _ _ (l .i) _ (l .inv) (c .before .before .before .before .loop-test .taken) (sym (rw (c .before .before .before .start-of .ensures .0) at (c .before .found .ensures)) ∙ not-false _ (c .if1 .left))
+loop-again c =
+    let at-loop-test = c .before .before .before .before in
+    let l = at-loop-test .before .loop in
+    every-goes _ _ (l .i) _ (l .inv) (at-loop-test .loop-test .taken)
+    (sym (rw (c .before .before .before .start-of .ensures .0) at (c .before .found .ensures)) ∙ not-false _ (c .if1 .left))
 
 returns-2 : tie.Need-returns-2 Inv-loop μ-loop
 returns-2 c = sym (every-none _ _ (c .before .loop .i) (c .loop-test .left)) ∙ c .before .loop .inv

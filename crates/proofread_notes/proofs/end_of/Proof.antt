@@ -5,7 +5,9 @@ use Rattle.proofread_notes.proofs.end_of.Statement.{statement}
 use Rattle.proofread_notes.proofs.end_of.Tie as tie
 
 snap-to-requires : tie.Need-snap-to-requires
-snap-to-requires c κs = let r = c .before .before .before .pre .0 .range (c .before .before .before .args .i) (c .before .before .before .pre .1) in omega (arith, r .end, c .before .before .before .pre .0 .some-grid, c .before .before .before .pre .0 .small-grid)
+snap-to-requires c κs =
+    let r = c .before .before .before .pre .0 .range (c .before .before .before .args .i) (c .before .before .before .pre .1) in
+    omega (arith, r .end, c .before .before .before .pre .0 .some-grid, c .before .before .before .pre .0 .small-grid)
 
 pub end-of-spec : {M : Type 1} → statement M
 end-of-spec =

@@ -24,13 +24,23 @@ same-length : tie.Need-same-length Inv-loop μ-loop
 same-length c = c .before .before .before .before .before .loop .inv .same .kept
 
 returns : tie.Need-returns Inv-loop μ-loop
-returns c = scan-stop (c .before .before .before .before .before .before .before .pre .0) (c .before .before .before .before .before .before .before .pre .1) (c .before .before .before .before .before .loop .inv) (c .before .before .before .before .loop-test .taken) (λ e. c .if1 .taken (c .before .before .start-of .ensures .0 ∙ e))
+returns c =
+    let at-loop-test = c .before .before .before .before in
+    let at-start = at-loop-test .before .before .before in
+    scan-stop (at-start .pre .0) (at-start .pre .1) (at-loop-test .before .loop .inv) (at-loop-test .loop-test .taken)
+    (λ e. c .if1 .taken (c .before .before .start-of .ensures .0 ∙ e))
 
 take-note-requires : tie.Need-take-note-requires Inv-loop μ-loop
-take-note-requires c κs = (readable-same (c .before .before .before .before .before .before .loop .inv .same) (c .before .before .before .before .before .before .before .before .pre .0), omega arith)
+take-note-requires c κs =
+    let at-loop = c .before .before .before .before .before .before in
+    (readable-same (at-loop .loop .inv .same) (at-loop .before .before .pre .0), omega arith)
 
 loop-again : tie.Need-loop-again Inv-loop μ-loop
-loop-again c = scan-more (c .before .before .before .before .before .before .before .before .before .before .before .pre .0) (c .before .before .before .before .before .before .before .before .before .loop .inv) (c .before .before .before .before .before .before .before .before .loop-test .taken) (sym (c .before .before .before .before .before .before .start-of .ensures .0) ∙ c .before .before .before .before .if1 .left) (c .before .before .take-note .ensures)
+loop-again c =
+    let at-if1 = c .before .before .before .before in
+    let at-loop-test = at-if1 .before .before .before .before in
+    scan-more (at-loop-test .before .before .before .pre .0) (at-loop-test .before .loop .inv) (at-loop-test .loop-test .taken)
+    (sym (at-if1 .before .before .start-of .ensures .0) ∙ at-if1 .if1 .left) (c .before .before .take-note .ensures)
 
 same-length-2 : tie.Need-same-length-2 Inv-loop μ-loop
 same-length-2 c = c .before .loop .inv .same .kept

@@ -20,7 +20,9 @@ start-of-requires : tie.Need-start-of-requires Inv-loop μ-loop
 start-of-requires c κs = (c .before .before .before .pre .0, omega arith)
 
 returns : tie.Need-returns Inv-loop μ-loop
-returns c = record { within = omega arith; before = c .before .before .before .loop .inv .1; from = λ h. omega (arith, c .before .start-of .ensures .0, c .if1 .taken) }
+returns c =
+    record
+    { within = omega arith; before = c .before .before .before .loop .inv .1; from = λ h. omega (arith, c .before .start-of .ensures .0, c .if1 .taken) }
 
 loop-again : tie.Need-loop-again Inv-loop μ-loop
 loop-again c = (omega arith, before-more (c .before .before .before .loop .inv .1) (omega (arith, c .before .start-of .ensures .0, c .if1 .left)))

@@ -11,4 +11,5 @@ returns : tie.Need-returns
 returns c = (refl, omega (arith, div-mul-le-self (c .args .t + c .args .g / 2) (c .args .g)))
 
 pub snap-to-spec : {M : Type 1} → statement M
-snap-to-spec = tie.close (tie.spec (λ c. search needs) (λ c. search needs) (λ c. omega (arith, div-mul-le-self (c .args .t + c .args .g / 2) (c .args .g))) returns)
+snap-to-spec =
+    tie.close (tie.spec (λ c. search needs) (λ c. search needs) (λ c. omega (arith, div-mul-le-self (c .args .t + c .args .g / 2) (c .args .g))) returns)

@@ -5,7 +5,9 @@ use Rattle.proofread_notes.proofs.start_of.Statement.{statement}
 use Rattle.proofread_notes.proofs.start_of.Tie as tie
 
 snap-to-requires : tie.Need-snap-to-requires
-snap-to-requires c κs = let r = c .before .before .pre .0 .range (c .before .before .args .i) (c .before .before .pre .1) in omega (arith, r .start, c .before .before .pre .0 .some-grid, c .before .before .pre .0 .small-grid)
+snap-to-requires c κs =
+    let r = c .before .before .pre .0 .range (c .before .before .args .i) (c .before .before .pre .1) in
+    omega (arith, r .start, c .before .before .pre .0 .some-grid, c .before .before .pre .0 .small-grid)
 
 pub start-of-spec : {M : Type 1} → statement M
 start-of-spec =

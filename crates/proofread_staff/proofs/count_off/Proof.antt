@@ -19,10 +19,20 @@ loop-holds : tie.Need-loop-holds Inv-loop μ-loop
 loop-holds c = let a = c .before .args in (omega arith, omega (arith, off-all (a .p) (a .n) (a .m) (a .work .now)), omega arith)
 
 loop-again : tie.Need-loop-again Inv-loop μ-loop
-loop-again c = let a = c .before .before .before .before .before .args in let l = c .before .before .before .loop in (omega arith, omega (arith, l .inv .1, off-one (a .p) (a .n) (a .m) (a .work .now) (l .i) (omega arith), c .off-flag .ensures .0), omega (arith, l .inv .2, c .off-flag .ensures .1))
+loop-again c =
+    let at-start = c .before .before .before .before .before in
+    let a = at-start .args in
+    let l = c .before .before .before .loop in (
+      omega arith,
+      omega (arith, l .inv .1, off-one (a .p) (a .n) (a .m) (a .work .now) (l .i) (omega arith), c .off-flag .ensures .0),
+      omega (arith, l .inv .2, c .off-flag .ensures .1),
+    )
 
 returns : tie.Need-returns Inv-loop μ-loop
-returns c = let a = c .before .before .before .args in let l = c .before .loop in (omega (arith, l .inv .1, off-none (a .p) (a .n) (a .m) (a .work .now) (l .i) (c .loop-test .left)), omega (arith, l .inv .2))
+returns c =
+    let a = c .before .before .before .args in
+    let l = c .before .loop in
+    (omega (arith, l .inv .1, off-none (a .p) (a .n) (a .m) (a .work .now) (l .i) (c .loop-test .left)), omega (arith, l .inv .2))
 
 pub count-off-spec : {M : Type 1} → statement M
 count-off-spec =

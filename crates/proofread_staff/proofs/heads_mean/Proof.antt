@@ -19,10 +19,18 @@ loop-holds : tie.Need-loop-holds Inv-loop μ-loop
 loop-holds c = refl
 
 returns : tie.Need-returns Inv-loop μ-loop
-returns c = let a = c .before .before .before .before .args in let l = c .before .before .before .loop in mean-fails (a .heads .now) (l .i) (c .before .before .loop-test .taken) (c .if1 .taken) (l .inv)
+returns c =
+    let at-start = c .before .before .before .before in
+    let a = at-start .args in
+    let l = c .before .before .before .loop in
+    mean-fails (a .heads .now) (l .i) (c .before .before .loop-test .taken) (c .if1 .taken) (l .inv)
 
 loop-again : tie.Need-loop-again Inv-loop μ-loop
-loop-again c = let a = c .before .before .before .before .args in let l = c .before .before .before .loop in mean-goes (a .heads .now) (l .i) (c .before .before .loop-test .taken) (c .if1 .left) (l .inv)
+loop-again c =
+    let at-start = c .before .before .before .before in
+    let a = at-start .args in
+    let l = c .before .before .before .loop in
+    mean-goes (a .heads .now) (l .i) (c .before .before .loop-test .taken) (c .if1 .left) (l .inv)
 
 returns-2 : tie.Need-returns-2 Inv-loop μ-loop
 returns-2 c = mean-end (c .before .before .args .heads .now) (c .before .loop .i) (c .loop-test .left) (c .before .loop .inv)

@@ -10,11 +10,15 @@ use Rattle.proofread_staff.proofs.measure.Statement.{statement}
 use Rattle.proofread_staff.proofs.measure.Tie as tie
 
 abbrev Inv-loop : tie.InvT-loop
-Inv-loop p deltas words end u walker₀ x₀ walker x =
-    Measuring deltas words p end u walker x
+Inv-loop p deltas words end max-bars u walker₀ x₀ walker x =
+    Measuring deltas words p end max-bars u walker x
 
 abbrev μ-loop : tie.MeasureT-loop
-μ-loop p deltas words end u walker₀ x₀ walker x = 10000 - x .bars
+μ-loop p deltas words end max-bars u walker₀ x₀ walker x = max-bars - x .bars
+
+-- the function's start, from the loop's head
+abbrev start : tie.At-loop Inv-loop μ-loop → tie.Start Inv-loop μ-loop
+start c = c .before .before .before .before
 
 first-bar-requires : tie.Need-first-bar-requires Inv-loop μ-loop
 first-bar-requires c κs = c .before .before .pre .0 .track
@@ -23,21 +27,49 @@ loop-holds : tie.Need-loop-holds Inv-loop μ-loop
 loop-holds c = measuring-start (c .first-bar .ensures)
 
 next-bar-requires : tie.Need-next-bar-requires Inv-loop μ-loop
-next-bar-requires c κs = walking-sane (c .before .before .loop .inv .walking) (c .before .before .before .before .before .before .pre .0 .ticks)
+next-bar-requires c κs = let at-loop = c .before .before in walking-sane (at-loop .loop .inv .walking) (start at-loop .pre .0 .ticks)
 
 with-bar-requires : tie.Need-with-bar-requires Inv-loop μ-loop
-with-bar-requires c κs = (c .before .before .before .before .before .before .before .before .before .pre .1, c .before .before .before .if1 .taken)
+with-bar-requires c κs =
+    let at-test = c .before .before .before in
+    let q = start (at-test .before .before) .pre in
+    (q .2, omega (arith, at-test .if1 .taken, q .1))
 
 returns : tie.Need-returns Inv-loop μ-loop
-returns c = let n = c .before .before .before .before .before .next-bar .ensures in
-    rw (c .before .before .with-bar .ensures, n) (measuring-last (c .before .before .before .before .before .before .before .before .loop .inv) (c .before .before .before .before .before .before .if1 .taken) _ (long (c .before .before .before .before .before .before .before .before .loop .walker)) (rw n at (c .if2 .taken)))
+returns c =
+    let at-with = c .before .before in
+    let at-next = at-with .before .before .before in
+    let at-test = at-next .before in
+    let at-loop = at-test .before .before in
+    let next = at-next .next-bar .ensures in
+    rw (at-with .with-bar .ensures, next)
+    (measuring-last (at-loop .loop .inv) (at-test .if1 .taken) _ (long (at-loop .loop .walker)) (rw next at (c .if2 .taken)))
 
 take-changes-requires : tie.Need-take-changes-requires Inv-loop μ-loop
-take-changes-requires c κs = let n = c .before .before .before .before .before .next-bar .ensures in rw n (walking-ready (c .before .before .before .before .before .before .before .before .loop .inv .walking) (c .before .before .before .before .before .before .before .before .before .before .before .before .pre .0 .track) _ (c .before .before .before .before .before .before .before .before .before .before .before .before .pre .0 .end-fits) (rw n at (c .if2 .left)))
+take-changes-requires c κs =
+    let at-next = c .before .before .before .before .before in
+    let at-loop = at-next .before .before .before in
+    let next = at-next .next-bar .ensures in
+    let q = start at-loop .pre in
+    rw next (walking-ready (at-loop .loop .inv .walking) (q .0 .track) _ (q .0 .end-fits) (rw next at (c .if2 .left)))
+
+loop-less : tie.Need-loop-less Inv-loop μ-loop
+loop-less c =
+    let at-with = c .before .before .before in
+    let at-test = at-with .before .before .before .before in
+    omega (arith, at-test .if1 .taken, ap (λ (y : Measured). y .bars) (at-with .with-bar .ensures))
 
 loop-again : tie.Need-loop-again Inv-loop μ-loop
-loop-again c = let n = c .before .before .before .before .before .before .next-bar .ensures in
-    rw (c .before .before .before .with-bar .ensures, n) (measuring-more (c .before .before .before .before .before .before .before .before .before .loop .inv) (c .before .before .before .before .before .before .before .if1 .taken) _ (long (c .before .before .before .before .before .before .before .before .before .loop .walker)) (c .before .before .before .before .before .before .before .before .before .before .before .before .before .pre .0 .end-fits) (rw n at (c .take-changes .ensures)) (rw n at (c .before .if2 .left)))
+loop-again c =
+    let at-more = c .before in
+    let at-with = at-more .before .before in
+    let at-next = at-with .before .before .before in
+    let at-test = at-next .before in
+    let at-loop = at-test .before .before in
+    let next = at-next .next-bar .ensures in
+    rw (at-with .with-bar .ensures, next)
+    (measuring-more (at-loop .loop .inv) (at-test .if1 .taken) _ (long (at-loop .loop .walker)) (start at-loop .pre .0 .end-fits)
+    (rw next at (c .take-changes .ensures)) (rw next at (at-more .if2 .left)))
 
 returns-2 : tie.Need-returns-2 Inv-loop μ-loop
 returns-2 c = measuring-end (c .before .before .loop .inv) (c .if1 .left)
@@ -55,6 +87,6 @@ measure-spec =
     with-bar-requires
     returns
     take-changes-requires
-    (λ c. omega (arith, c .before .before .before .before .before .before .before .if1 .taken, ap (λ (y : Measured). y .bars) (c .before .before .before .with-bar .ensures)))
+    loop-less
     loop-again
     returns-2)

@@ -23,7 +23,9 @@ returns : tie.Need-returns Inv-loop μ-loop
 returns c = let l = c .before .before .loop in (sym (halved-odd _ (l .u) (c .if1 .taken)) ∙ l .inv .0, l .inv .1)
 
 loop-again : tie.Need-loop-again Inv-loop μ-loop
-loop-again c = let l = c .before .before .loop in (smallest-step (l .k) (l .u) (c .before .loop-test .taken) (c .if1 .left) (l .inv .0), omega (arith, l .inv .1, c .if1 .left))
+loop-again c =
+    let l = c .before .before .loop in
+    (smallest-step (l .k) (l .u) (c .before .loop-test .taken) (c .if1 .left) (l .inv .0), omega (arith, l .inv .1, c .if1 .left))
 
 returns-2 : tie.Need-returns-2 Inv-loop μ-loop
 returns-2 c = let l = c .before .loop in (sym (halved-zero _ (l .u) (omega arith)) ∙ l .inv .0, l .inv .1)

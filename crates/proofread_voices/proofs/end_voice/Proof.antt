@@ -6,7 +6,9 @@ use Rattle.proofread_voices.proofs.end_voice.Statement.{statement}
 use Rattle.proofread_voices.proofs.end_voice.Tie as tie
 
 returns : tie.Need-returns
-returns c = ends-closed (sym (c .before .before .before .before .before .free-at .ensures) ∙ c .before .before .before .before .if1 .taken) (c .before .before .close-chord .ensures)
+returns c =
+    let at-if1 = c .before .before .before .before in
+    ends-closed (sym (at-if1 .before .free-at .ensures) ∙ at-if1 .if1 .taken) (c .before .before .close-chord .ensures)
 
 returns-2 : tie.Need-returns-2
 returns-2 c = ends-tied (sym (c .before .free-at .ensures) ∙ c .if1 .left)

@@ -19,10 +19,20 @@ loop-holds : tie.Need-loop-holds Inv-loop μ-loop
 loop-holds c = (omega arith, sum-start (drop (c .args .from) (c .args .counts .now)), omega arith)
 
 loop-again : tie.Need-loop-again Inv-loop μ-loop
-loop-again c = let a = c .before .before .before .args in let l = c .before .before .loop in (omega arith, omega (arith, l .inv .1, sum-more (a .counts .now) (a .from) (l .i) (omega arith)), omega (arith, c .shared-slice-known .given (a .from + l .i), l .inv .2))
+loop-again c =
+    let a = c .before .before .before .args in
+    let l = c .before .before .loop in (
+      omega arith,
+      omega (arith, l .inv .1, sum-more (a .counts .now) (a .from) (l .i) (omega arith)),
+      omega (arith, c .shared-slice-known .given (a .from + l .i), l .inv .2),
+    )
 
 returns : tie.Need-returns Inv-loop μ-loop
-returns c = let a = c .before .before .args in let l = c .before .loop in let q : l .i ≡ a .n = omega arith in (l .inv .1 ∙ ap (λ (x : ℕ). sum (take x (drop (a .from) (a .counts .now)))) q, omega (arith, l .inv .2))
+returns c =
+    let a = c .before .before .args in
+    let l = c .before .loop in
+    let q : l .i ≡ a .n = omega arith in
+    (l .inv .1 ∙ ap (λ (x : ℕ). sum (take x (drop (a .from) (a .counts .now)))) q, omega (arith, l .inv .2))
 
 pub sum-counts-spec : {M : Type 1} → statement M
 sum-counts-spec =

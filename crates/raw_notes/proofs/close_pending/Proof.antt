@@ -22,19 +22,23 @@ take-pending-requires c κs =
 
 put-note-requires : tie.Need-put-note-requires Inv-loop μ-loop
 put-note-requires c κs =
-    let o = c .before .before .before .before .before .before .before .pre in
-    let p = c .before .before .before .before .before .loop .inv .reach (o .tails) (o .x) (o .pairs) in
-    let e = ends p (c .before .take-pending .ensures (o .tails) _ _ (p .queues) (p .later)) in
+    let at-loop = c .before .before .before .before .before in
+    let o = at-loop .before .before .pre in
+    let p = at-loop .loop .inv .reach (o .tails) (o .x) (o .pairs) in
+    let e = ends p (c .before .take-pending .ensures (o .tails) _ _ (p .taking .queues) (p .taking .later)) in
     (e .room, e .area, e .early, o .soon, omega arith, e .channel)
 
 loop-again : tie.Need-loop-again Inv-loop μ-loop
 loop-again c =
-    let inv = c .before .before .before .before .before .before .before .before .loop .inv in
+    let at-put-note = c .before .before in
+    let at-loop = at-put-note .before .before .before .before .before .before in
+    let inv = at-loop .loop .inv in
     record {
-      kept = c .before .before .put-note .kept .0 ∙ inv .kept;
+      kept = at-put-note .put-note .kept .0 ∙ inv .kept;
       reach = λ t x y.
           let p = inv .reach t x y in
-          closing-more p (c .before .before .before .before .take-pending .ensures t _ _ (p .queues) (p .later)) (c .before .before .put-note .kept .0) (c .before .before .put-note .ensures);
+          closing-more p (at-put-note .before .before .take-pending .ensures t _ _ (p .taking .queues) (p .taking .later))
+          (at-put-note .put-note .kept .0) (at-put-note .put-note .ensures);
     }
 
 same-length : tie.Need-same-length Inv-loop μ-loop

@@ -12,12 +12,23 @@ pair-track-requires c κs =
     record { track = p .0; heads = zeros-empty; tails = zeros-grid; area = p .2; ons = p .1 }
 
 gather-requires : tie.Need-gather-requires
-gather-requires c κs = let p = c .before .before .before .before .before .before .before .before .before .before .before .before .pair-track .ensures .pairs .queues in (p .room, omega (arith, p .area, c .before .before .before .before .before .before .before .close-pending .kept .1 .0, c .before .before .before .sort-places .kept .0), places-small (c .before .before .before .sort-places .ensures) (p .room))
+gather-requires c κs =
+    let at-sort-places = c .before .before .before in
+    let at-close-pending = at-sort-places .before .before .before .before in
+    let at-pair-track = at-close-pending .before .before .before .before .before in
+    let p = at-pair-track .pair-track .ensures .pairs .queues in (
+      p .room,
+      omega (arith, p .area, at-close-pending .close-pending .kept .1 .0, at-sort-places .sort-places .kept .0),
+      places-small (at-sort-places .sort-places .ensures) (p .room),
+    )
 
 returns : tie.Need-returns
 returns c =
-    let p = c .before .before .before .before .before .before .before .before .before .before .before .before .before .before .before .pair-track .ensures in
-    collected p (c .before .before .before .before .before .before .before .before .before .before .close-pending .ensures _ _ (p .pairs)) (c .before .before .before .before .before .before .sort-places .ensures) (c .before .before .gather .ensures)
+    let at-sort-places = c .before .before .before .before .before .before in
+    let at-close-pending = at-sort-places .before .before .before .before in
+    let at-pair-track = at-close-pending .before .before .before .before .before in
+    let p = at-pair-track .pair-track .ensures in
+    collected p (at-close-pending .close-pending .ensures _ _ (p .pairs)) (at-sort-places .sort-places .ensures) (c .before .before .gather .ensures)
 
 pub collect-raw-notes-spec : {M : Type 1} → statement M
 collect-raw-notes-spec =

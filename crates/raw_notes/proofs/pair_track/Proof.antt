@@ -21,15 +21,30 @@ wide-requires : tie.Need-wide-requires Inv-loop μ-loop
 wide-requires c κs = tt
 
 add-tick : tie.Need-add-tick Inv-loop μ-loop
-add-tick c = let p = running-turn (c .before .before .before .before .before .before .before .before .pre .track) (c .before .before .before .before .loop .inv .1) (omega arith) in omega (arith, p .soon, c .before .wide .ensures)
+add-tick c =
+    let at-loop = c .before .before .before .before in
+    let at-start = at-loop .before .before .before .before in
+    let p = running-turn (at-start .pre .track) (at-loop .loop .inv .1) (omega arith) in
+    omega (arith, p .soon, c .before .wide .ensures)
 
 take-event-requires : tie.Need-take-event-requires Inv-loop μ-loop
-take-event-requires c κs = rw (c .before .before .before .before .before .wide .ensures) (running-turn (c .before .before .before .before .before .before .before .before .before .before .before .before .pre .track) (c .before .before .before .before .before .before .before .before .loop .inv .1) (omega arith))
+take-event-requires c κs =
+    let at-wide = c .before .before .before .before .before in
+    let at-loop = at-wide .before .before .before in
+    let at-start = at-loop .before .before .before .before in
+    rw (at-wide .wide .ensures) (running-turn (at-start .pre .track) (at-loop .loop .inv .1) (omega arith))
 
 loop-again : tie.Need-loop-again Inv-loop μ-loop
 loop-again c =
-    let p = c .before .before .before .before .before .before .before .before .before .before .before .loop .inv in
-    (c .before .before .take-event .kept .1 .1 .0 ∙ p .0, running-more (c .before .before .before .before .before .before .before .before .before .before .before .before .before .before .before .pre .track) (p .1) (omega arith) (rw (c .before .before .before .before .before .before .before .before .wide .ensures) at (c .before .before .take-event .ensures (p .1 .x) (p .1 .pairs))))
+    let at-take-event = c .before .before in
+    let at-wide = at-take-event .before .before .before .before .before .before in
+    let at-loop = at-wide .before .before .before in
+    let at-start = at-loop .before .before .before .before in
+    let p = at-loop .loop .inv in (
+      at-take-event .take-event .kept .1 .1 .0 ∙ p .0,
+      running-more (at-start .pre .track) (p .1) (omega arith)
+          (rw (at-wide .wide .ensures) at (at-take-event .take-event .ensures (p .1 .x) (p .1 .pairs))),
+    )
 
 same-length : tie.Need-same-length Inv-loop μ-loop
 same-length c = c .before .loop .inv .0

@@ -17,7 +17,9 @@ abbrev μ-loop : tie.MeasureT-loop
     4 - v
 
 -- what is asked of the bar
-abbrev can : (c : tie.Start Inv-loop μ-loop) → CanPush (c .args .write) (quarter (c .args .values .now)) (c .args .n) (c .args .work .now) (c .args .t5) (c .args .bar) (c .args .s) (c .args .counts .now) (c .args .heads .now) (c .args .keys .now)
+abbrev can : (c : tie.Start Inv-loop μ-loop)
+    → CanPush (c .args .write) (quarter (c .args .values .now)) (c .args .n) (c .args .work .now) (c .args .t5) (c .args .bar) (c .args .s)
+    (c .args .counts .now) (c .args .heads .now) (c .args .keys .now)
 can c = c .pre .2
 
 loop-holds : tie.Need-loop-holds Inv-loop μ-loop
@@ -25,24 +27,60 @@ loop-holds c = midway-start _ _ _ _ _ _ _ _ _ _ (can (c .before .before .before 
 
 push-counted-requires : tie.Need-push-counted-requires Inv-loop μ-loop
 push-counted-requires c κs =
-    let at = c .before .before .before .before .before .loop in
-    let pre = c .before .before .before .before .before .before .before .before .before .before .before .pre in
-    (pre .0, pre .1 (at .v) (omega arith), midway-can _ _ _ _ _ _ _ _ _ _ (can (c .before .before .before .before .before .before .before .before .before .before .before)) (at .inv) (omega arith))
+    let at-loop = c .before .before .before .before .before in
+    let at-start = at-loop .before .before .before .before .before .before in
+    let at = at-loop .loop in
+    let pre = at-start .pre in
+    (pre .0, pre .1 (at .v) (omega arith), midway-can _ _ _ _ _ _ _ _ _ _ (can at-start) (at .inv) (omega arith))
 
 loop-again : tie.Need-loop-again Inv-loop μ-loop
-loop-again c = midway-more _ _ _ _ _ _ _ _ _ _ (can (c .before .before .before .before .before .before .before .before .before .before .before .before .before .before .before .before .before .before)) (c .before .before .before .before .before .before .before .before .before .before .before .before .loop .inv) (omega arith) (c .before .before .before .before .before .before .push-counted .ensures)
+loop-again c =
+    let at-push-counted = c .before .before .before .before .before .before in
+    let at-loop = at-push-counted .before .before .before .before .before .before in
+    let at-start = at-loop .before .before .before .before .before .before in
+    midway-more _ _ _ _ _ _ _ _ _ _ (can at-start) (at-loop .loop .inv) (omega arith) (at-push-counted .push-counted .ensures)
 
 same-length : tie.Need-same-length Inv-loop μ-loop
-same-length c = midway-counts _ _ _ _ _ _ _ _ _ _ (can (c .before .before .before .before .before .before .before .before)) (c .before .before .loop .inv)
+same-length c =
+    let at-loop = c .before .before in
+    let at-start = at-loop .before .before .before .before .before .before in
+    midway-counts _ _ _ _ _ _ _ _ _ _ (can at-start) (at-loop .loop .inv)
 
 same-length-2 : tie.Need-same-length-2 Inv-loop μ-loop
-same-length-2 c = midway-heads _ _ _ _ _ _ _ _ _ _ (can (c .before .before .before .before .before .before .before .before)) (c .before .before .loop .inv)
+same-length-2 c =
+    let at-loop = c .before .before in
+    let at-start = at-loop .before .before .before .before .before .before in
+    midway-heads _ _ _ _ _ _ _ _ _ _ (can at-start) (at-loop .loop .inv)
 
 same-length-3 : tie.Need-same-length-3 Inv-loop μ-loop
-same-length-3 c = midway-keys _ _ _ _ _ _ _ _ _ _ (can (c .before .before .before .before .before .before .before .before)) (c .before .before .loop .inv)
+same-length-3 c =
+    let at-loop = c .before .before in
+    let at-start = at-loop .before .before .before .before .before .before in
+    midway-keys _ _ _ _ _ _ _ _ _ _ (can at-start) (at-loop .loop .inv)
 
 returns : tie.Need-returns Inv-loop μ-loop
-returns c = midway-end _ _ _ _ _ _ _ _ _ _ (can (c .before .before .before .before .before .before .before .before)) (c .before .before .loop .inv) (c .before .loop-test .left) _ refl refl refl
+returns c =
+    let at-loop = c .before .before in
+    let at-start = at-loop .before .before .before .before .before .before in
+    midway-end _ _ _ _ _ _ _ _ _ _ (can at-start) (at-loop .loop .inv) (c .before .loop-test .left) _ refl refl refl
+
+mul-place : tie.Need-mul-place Inv-loop μ-loop
+mul-place c =
+    let at-loop = c .before .before in
+    let at-start = at-loop .before .before .before .before .before .before in
+    omega (arith, can at-start .few)
+
+add-place : tie.Need-add-place Inv-loop μ-loop
+add-place c =
+    let at-loop = c .before .before in
+    let at-start = at-loop .before .before .before .before .before .before in
+    omega (arith, can at-start .few)
+
+add-t34 : tie.Need-add-t34 Inv-loop μ-loop
+add-t34 c =
+    let at-loop = c .before .before in
+    let at-start = at-loop .before .before .before .before .before .before in
+    omega (arith, can at-start .few)
 
 pub push-bar-spec : {M : Type 1} → statement M
 push-bar-spec =
@@ -51,8 +89,8 @@ push-bar-spec =
     Inv-loop
     μ-loop
     loop-holds
-    (λ c. omega (arith, can (c .before .before .before .before .before .before .before .before) .few))
-    (λ c. omega (arith, can (c .before .before .before .before .before .before .before .before) .few))
+    mul-place
+    add-place
     (λ c. omega arith)
     (λ c. omega arith)
     (λ c. omega arith)
@@ -63,7 +101,7 @@ push-bar-spec =
     (λ c. omega arith)
     (λ c. omega arith)
     loop-again
-    (λ c. omega (arith, can (c .before .before .before .before .before .before .before .before) .few))
+    add-t34
     same-length
     same-length-2
     same-length-3

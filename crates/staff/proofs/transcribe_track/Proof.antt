@@ -5,7 +5,8 @@ use native.Mathlib.Omega.{arith}
 use borrow.Author.Needs.{needs}
 use Rattle.bar_walk.proofs.WalkLaws.{walking-sane, walking-ready}
 use Rattle.items.specs.Writing.{quarter}
-use Rattle.staff.proofs.StaffWalk.{Onward, onward-start, onward-counts, onward-heads, onward-keys, onward-end-soon, onward-can, onward-more, onward-last, onward-end}
+use Rattle.staff.proofs.StaffWalk.{Onward, onward-start, onward-counts, onward-heads, onward-keys, onward-end-soon}
+use Rattle.staff.proofs.StaffWalk.{onward-can, onward-more, onward-last, onward-end}
 use Rattle.staff.proofs.transcribe_track.Statement.{statement}
 use Rattle.staff.proofs.transcribe_track.Tie as tie
 
@@ -18,70 +19,155 @@ abbrev μ-loop : tie.MeasureT-loop
     max-bars - s .bars
 
 first-bar-requires : tie.Need-first-bar-requires Inv-loop μ-loop
-first-bar-requires c κs = c .before .before .before .before .before .before .before .pre .1 .track
+first-bar-requires c κs =
+    let at-slice-known = c .before .before .before in
+    let at-start = at-slice-known .before .before .before .before in
+    at-start .pre .1 .track
 
 loop-holds : tie.Need-loop-holds Inv-loop μ-loop
 loop-holds c = onward-start _ _ _ _ _ _ _ _ _ _ _ _ (c .first-bar .ensures)
 
+abbrev start-of-loop : tie.At-loop Inv-loop μ-loop → tie.Start Inv-loop μ-loop
+start-of-loop c =
+    let at-slice-known2 = c .before .before .before .before in
+    at-slice-known2 .before .before .before .before .before
+
 length-requires : tie.Need-length-requires Inv-loop μ-loop
-length-requires c κs = walking-sane (c .before .before .loop .inv .walking) (c .before .before .before .before .before .before .before .before .before .before .before .pre .1 .ticks)
+length-requires c κs =
+    let at-loop = c .before .before in
+    let at-start = start-of-loop at-loop in
+    walking-sane (at-loop .loop .inv .walking) (at-start .pre .1 .ticks)
 
 -- the bar ends in range
 ends : (c : tie.After-length Inv-loop μ-loop) → c .before .before .before .loop .w .start + c .length .result < 2 ^ 49
 ends c =
-    let pre = c .before .before .before .before .before .before .before .before .before .before .before .before .pre in
-    rw (c .length .ensures) (onward-end-soon _ _ _ _ _ _ _ _ _ _ _ _ (pre .4) (pre .3) (pre .1 .ticks) (c .before .before .before .loop .inv))
+    let at-loop = c .before .before .before in
+    let at-start = start-of-loop at-loop in
+    let pre = at-start .pre in
+    rw (c .length .ensures) (onward-end-soon _ _ _ _ _ _ _ _ _ _ _ _ (pre .4) (pre .3) (pre .1 .ticks) (at-loop .loop .inv))
 
 push-bar-requires : tie.Need-push-bar-requires Inv-loop μ-loop
 push-bar-requires c κs =
-    let pre = c .before .before .before .before .before .before .before .before .before .before .before .before .before .before .before .before .pre in
-    (pre .0, pre .3, rw (c .before .before .before .before .length .ensures) (onward-can _ _ _ _ _ _ _ _ _ _ _ _ (pre .4) (pre .3) (pre .1 .ticks) (c .before .before .before .before .before .before .before .loop .inv) (c .before .before .before .before .before .if1 .taken) (pre .2)))
+    let at-length = c .before .before .before .before in
+    let at-loop = at-length .before .before .before in
+    let at-start = start-of-loop at-loop in
+    let pre = at-start .pre in (
+      pre .0,
+      pre .3,
+      rw (at-length .length .ensures)
+          (onward-can _ _ _ _ _ _ _ _ _ _ _ _ (pre .4) (pre .3) (pre .1 .ticks) (at-loop .loop .inv) (at-length .before .if1 .taken) (pre .2)),
+    )
 
 next-bar-requires : tie.Need-next-bar-requires Inv-loop μ-loop
-next-bar-requires c κs = walking-sane (c .before .before .before .before .before .before .before .before .before .before .before .before .before .before .loop .inv .walking) (c .before .before .before .before .before .before .before .before .before .before .before .before .before .before .before .before .before .before .before .before .before .before .before .pre .1 .ticks)
+next-bar-requires c κs =
+    let at-counts = c .before .before .before .before .before in
+    let at-length = at-counts .before .before .before .before .before .before in
+    let at-loop = at-length .before .before .before in
+    let at-start = start-of-loop at-loop in
+    walking-sane (at-loop .loop .inv .walking) (at-start .pre .1 .ticks)
 
 same-length : tie.Need-same-length Inv-loop μ-loop
-same-length c = let pre = c .before .before .before .before .before .before .before .before .before .before .before .before .before .before .before .before .before .before .before .before .before .before .before .before .before .before .pre in c .before .before .before .before .before .before .before .before .before .push-bar .kept .1 .1 .1 .1 .1 .1 .1 .0 ∙ onward-counts _ _ _ _ _ _ _ _ _ _ _ _ (pre .4) (pre .3) (pre .1 .ticks) (c .before .before .before .before .before .before .before .before .before .before .before .before .before .before .before .before .before .loop .inv)
+same-length c =
+    let at-keys = c .before .before .before .before in
+    let at-push-bar = at-keys .before .before .before .before .before in
+    let at-length = at-push-bar .before .before .before .before .before in
+    let at-loop = at-length .before .before .before in
+    let at-start = start-of-loop at-loop in
+    let pre = at-start .pre in
+    at-push-bar .push-bar .kept .1 .1 .1 .1 .1 .1 .1 .0 ∙ onward-counts _ _ _ _ _ _ _ _ _ _ _ _ (pre .4) (pre .3) (pre .1 .ticks) (at-loop .loop .inv)
 
 same-length-2 : tie.Need-same-length-2 Inv-loop μ-loop
-same-length-2 c = let pre = c .before .before .before .before .before .before .before .before .before .before .before .before .before .before .before .before .before .before .before .before .before .before .before .before .before .before .pre in c .before .before .before .before .before .before .before .before .before .push-bar .kept .1 .1 .1 .1 .1 .1 .1 .1 .0 ∙ onward-heads _ _ _ _ _ _ _ _ _ _ _ _ (pre .4) (pre .3) (pre .1 .ticks) (c .before .before .before .before .before .before .before .before .before .before .before .before .before .before .before .before .before .loop .inv)
+same-length-2 c =
+    let at-keys = c .before .before .before .before in
+    let at-push-bar = at-keys .before .before .before .before .before in
+    let at-length = at-push-bar .before .before .before .before .before in
+    let at-loop = at-length .before .before .before in
+    let at-start = start-of-loop at-loop in
+    let pre = at-start .pre in
+    at-push-bar .push-bar .kept .1 .1 .1 .1 .1 .1 .1 .1 .0 ∙ onward-heads _ _ _ _ _ _ _ _ _ _ _ _ (pre .4) (pre .3) (pre .1 .ticks) (at-loop .loop .inv)
 
 same-length-3 : tie.Need-same-length-3 Inv-loop μ-loop
-same-length-3 c = let pre = c .before .before .before .before .before .before .before .before .before .before .before .before .before .before .before .before .before .before .before .before .before .before .before .before .before .before .pre in c .before .before .before .before .before .before .before .before .before .push-bar .kept .1 .1 .1 .1 .1 .1 .1 .1 .1 .0 ∙ onward-keys _ _ _ _ _ _ _ _ _ _ _ _ (pre .4) (pre .3) (pre .1 .ticks) (c .before .before .before .before .before .before .before .before .before .before .before .before .before .before .before .before .before .loop .inv)
+same-length-3 c =
+    let at-keys = c .before .before .before .before in
+    let at-push-bar = at-keys .before .before .before .before .before in
+    let at-length = at-push-bar .before .before .before .before .before in
+    let at-loop = at-length .before .before .before in
+    let at-start = start-of-loop at-loop in
+    let pre = at-start .pre in
+    at-push-bar .push-bar .kept .1 .1 .1 .1 .1 .1 .1 .1 .1 .0 ∙ onward-keys _ _ _ _ _ _ _ _ _ _ _ _ (pre .4) (pre .3) (pre .1 .ticks) (at-loop .loop .inv)
 
 returns : tie.Need-returns Inv-loop μ-loop
 returns c =
-    let pre = c .before .before .before .before .before .before .before .before .before .before .before .before .before .before .before .before .before .before .before .before .before .before .before .before .before .before .pre in
-    let put = rw (c .before .before .before .before .before .before .before .before .before .before .before .before .before .before .length .ensures) at (c .before .before .before .before .before .before .before .before .before .push-bar .ensures) in
+    let at-keys = c .before .before .before .before in
+    let at-push-bar = at-keys .before .before .before .before .before in
+    let at-length = at-push-bar .before .before .before .before .before in
+    let at-loop = at-length .before .before .before in
+    let at-start = start-of-loop at-loop in
+    let pre = at-start .pre in
+    let put = rw (at-length .length .ensures) at (at-push-bar .push-bar .ensures) in
     let last = rw (c .before .before .next-bar .ensures) at (c .if2 .taken) in
-    onward-last _ _ _ _ _ _ _ _ _ _ _ _ (pre .4) (pre .3) (pre .1 .ticks) (c .before .before .before .before .before .before .before .before .before .before .before .before .before .before .before .before .before .loop .inv) (c .before .before .before .before .before .before .before .before .before .before .before .before .before .before .before .if1 .taken) put last
+    onward-last _ _ _ _ _ _ _ _ _ _ _ _ (pre .4) (pre .3) (pre .1 .ticks) (at-loop .loop .inv) (at-length .before .if1 .taken) put last
 
 take-changes-requires : tie.Need-take-changes-requires Inv-loop μ-loop
 take-changes-requires c κs =
-    let pre = c .before .before .before .before .before .before .before .before .before .before .before .before .before .before .before .before .before .before .before .before .before .before .before .before .before .before .pre in
-    let more = rw (c .before .before .next-bar .ensures) at (c .if2 .left) in
-    rw (c .before .before .next-bar .ensures) (walking-ready (c .before .before .before .before .before .before .before .before .before .before .before .before .before .before .before .before .before .loop .inv .walking) (pre .1 .track) _ (pre .1 .end-fits) more)
+    let at-next-bar = c .before .before in
+    let at-heads = at-next-bar .before .before .before .before in
+    let at-push-bar-arg2 = at-heads .before .before .before .before .before in
+    let at-loop = at-push-bar-arg2 .before .before .before .before .before .before in
+    let at-start = start-of-loop at-loop in
+    let pre = at-start .pre in
+    let more = rw (at-next-bar .next-bar .ensures) at (c .if2 .left) in
+    rw (at-next-bar .next-bar .ensures) (walking-ready (at-loop .loop .inv .walking) (pre .1 .track) _ (pre .1 .end-fits) more)
 
 loop-again : tie.Need-loop-again Inv-loop μ-loop
 loop-again c =
-    let pre = c .before .before .before .before .before .before .before .before .before .before .before .before .before .before .before .before .before .before .before .before .before .before .before .before .before .before .before .pre in
-    let put = rw (c .before .before .before .before .before .before .before .before .before .before .before .before .before .before .before .length .ensures) at (c .before .before .before .before .before .before .before .before .before .before .push-bar .ensures) in
+    let at-keys = c .before .before .before .before .before in
+    let at-push-bar = at-keys .before .before .before .before .before in
+    let at-length = at-push-bar .before .before .before .before .before in
+    let at-loop = at-length .before .before .before in
+    let at-start = start-of-loop at-loop in
+    let pre = at-start .pre in
+    let put = rw (at-length .length .ensures) at (at-push-bar .push-bar .ensures) in
     let next = c .before .before .before .next-bar .ensures in
     let more = rw next at (c .before .if2 .left) in
     let settled = rw next at (c .take-changes .ensures) in
-    onward-more _ _ _ _ _ _ _ _ _ _ _ _ (pre .4) (pre .3) (pre .1 .ticks) (c .before .before .before .before .before .before .before .before .before .before .before .before .before .before .before .before .before .before .loop .inv) (c .before .before .before .before .before .before .before .before .before .before .before .before .before .before .before .before .if1 .taken) put settled (pre .1 .end-fits) more
+    onward-more _ _ _ _ _ _ _ _ _ _ _ _ (pre .4) (pre .3) (pre .1 .ticks) (at-loop .loop .inv) (at-length .before .if1 .taken) put settled
+    (pre .1 .end-fits) more
 
 same-length-4 : tie.Need-same-length-4 Inv-loop μ-loop
-same-length-4 c = let pre = c .before .before .before .before .before .before .before .before .before .before .before .pre in onward-counts _ _ _ _ _ _ _ _ _ _ _ _ (pre .4) (pre .3) (pre .1 .ticks) (c .before .before .loop .inv)
+same-length-4 c =
+    let at-loop = c .before .before in
+    let at-start = start-of-loop at-loop in
+    let pre = at-start .pre in
+    onward-counts _ _ _ _ _ _ _ _ _ _ _ _ (pre .4) (pre .3) (pre .1 .ticks) (at-loop .loop .inv)
 
 same-length-5 : tie.Need-same-length-5 Inv-loop μ-loop
-same-length-5 c = let pre = c .before .before .before .before .before .before .before .before .before .before .before .pre in onward-heads _ _ _ _ _ _ _ _ _ _ _ _ (pre .4) (pre .3) (pre .1 .ticks) (c .before .before .loop .inv)
+same-length-5 c =
+    let at-loop = c .before .before in
+    let at-start = start-of-loop at-loop in
+    let pre = at-start .pre in
+    onward-heads _ _ _ _ _ _ _ _ _ _ _ _ (pre .4) (pre .3) (pre .1 .ticks) (at-loop .loop .inv)
 
 same-length-6 : tie.Need-same-length-6 Inv-loop μ-loop
-same-length-6 c = let pre = c .before .before .before .before .before .before .before .before .before .before .before .pre in onward-keys _ _ _ _ _ _ _ _ _ _ _ _ (pre .4) (pre .3) (pre .1 .ticks) (c .before .before .loop .inv)
+same-length-6 c =
+    let at-loop = c .before .before in
+    let at-start = start-of-loop at-loop in
+    let pre = at-start .pre in
+    onward-keys _ _ _ _ _ _ _ _ _ _ _ _ (pre .4) (pre .3) (pre .1 .ticks) (at-loop .loop .inv)
 
 returns-2 : tie.Need-returns-2 Inv-loop μ-loop
-returns-2 c = let pre = c .before .before .before .before .before .before .before .before .before .before .before .pre in onward-end _ _ _ _ _ _ _ _ _ _ _ _ (pre .4) (pre .3) (pre .1 .ticks) (c .before .before .loop .inv) (c .if1 .left)
+returns-2 c =
+    let at-loop = c .before .before in
+    let at-start = start-of-loop at-loop in
+    let pre = at-start .pre in
+    onward-end _ _ _ _ _ _ _ _ _ _ _ _ (pre .4) (pre .3) (pre .1 .ticks) (at-loop .loop .inv) (c .if1 .left)
+
+loop-less : tie.Need-loop-less Inv-loop μ-loop
+loop-less c =
+    let at-keys = c .before .before .before .before .before in
+    let at-push-bar = at-keys .before .before .before .before .before in
+    let at-if1 = at-push-bar .before .before .before .before .before .before in
+    omega (arith, at-push-bar .push-bar .ensures .bars, at-if1 .if1 .taken)
 
 pub transcribe-track-spec : {M : Type 1} → statement M
 transcribe-track-spec =
@@ -101,7 +187,7 @@ transcribe-track-spec =
     same-length-3
     returns
     take-changes-requires
-    (λ c. omega (arith, c .before .before .before .before .before .before .before .before .before .before .push-bar .ensures .bars, c .before .before .before .before .before .before .before .before .before .before .before .before .before .before .before .before .if1 .taken))
+    loop-less
     loop-again
     same-length-4
     same-length-5

@@ -19,19 +19,45 @@ loop-holds : tie.Need-loop-holds Inv-loop μ-loop
 loop-holds c = (refl, running-start _ _ (c .before .before .before .before .before .pre))
 
 add-tick : tie.Need-add-tick Inv-loop μ-loop
-add-tick c = let p = running-turn (c .before .before .before .before .before .before .before .before .before .before .pre) (c .before .before .before .before .loop .inv .1) (omega arith) in omega (arith, p .soon, c .before .wide .ensures)
+add-tick c =
+    let at-loop = c .before .before .before .before in
+    let at-start = at-loop .before .before .before .before .before .before in
+    let p = running-turn (at-start .pre) (at-loop .loop .inv .1) (omega arith) in
+    omega (arith, p .soon, c .before .wide .ensures)
 
 take-event-requires : tie.Need-take-event-requires Inv-loop μ-loop
-take-event-requires c κs = rw (c .before .before .before .before .before .before .before .wide .ensures) (running-turn (c .before .before .before .before .before .before .before .before .before .before .before .before .before .before .before .before .pre) (c .before .before .before .before .before .before .before .before .before .before .loop .inv .1) (omega arith))
+take-event-requires c κs =
+    let at-take-event-arg3 = c .before .before .before in
+    let at-wide = at-take-event-arg3 .before .before .before .before in
+    let at-loop = at-wide .before .before .before in
+    let at-start = at-loop .before .before .before .before .before .before in
+    rw (at-wide .wide .ensures) (running-turn (at-start .pre) (at-loop .loop .inv .1) (omega arith))
 
 loop-again : tie.Need-loop-again Inv-loop μ-loop
 loop-again c =
     let e = c .before .before .before .before .before .before in
-    let o = e .before .before .before .before .before .before .before .before .before .before .before in
+    let at-take-event-arg3 = e .before .before .before .before in
+    let at-wide = at-take-event-arg3 .before .before .before .before in
+    let o = at-wide .before .before .before in
+    let at-start = o .before .before .before .before .before .before in
     let p = o .loop .inv in (
       e .take-event .kept .1 .1 .0 ∙ p .0,
-      running-more (o .before .before .before .before .before .before .pre) (p .1) (e .before .before .before .before .before .before .before .before .before .before .loop-test .taken) (rw (e .before .before .before .before .before .before .before .before .wide .ensures) at (e .take-event .ensures (p .1 .x) (p .1 .pairs))),
+      running-more (at-start .pre) (p .1) (at-wide .before .before .loop-test .taken)
+          (rw (at-wide .wide .ensures) at (e .take-event .ensures (p .1 .x) (p .1 .pairs))),
     )
+
+shared-slice-read-take-event : tie.Need-shared-slice-read-take-event Inv-loop μ-loop
+shared-slice-read-take-event c =
+    let at-wide = c .before .before .before .before .before in
+    let at-loop = at-wide .before .before .before in
+    let at-start = at-loop .before .before .before .before .before .before in
+    omega (arith, at-start .pre .events .same)
+
+returns : tie.Need-returns Inv-loop μ-loop
+returns c =
+    let at-loop = c .before in
+    let at-start = at-loop .before .before .before .before .before .before in
+    running-end (at-start .pre) (at-loop .loop .inv .1) (omega arith)
 
 pub pair-track-spec : {M : Type 1} → statement M
 pair-track-spec =
@@ -45,7 +71,7 @@ pair-track-spec =
     (λ c κs. tt)
     add-tick
     (λ c. omega arith)
-    (λ c. omega (arith, c .before .before .before .before .before .before .before .before .before .before .before .before .before .before .pre .events .same))
+    shared-slice-read-take-event
     take-event-requires
     (λ c. omega arith)
     (λ c. omega arith)
@@ -53,4 +79,4 @@ pair-track-spec =
     (λ c. c .before .loop .inv .0)
     (λ c. places-kept (c .before .loop .inv .1 .found))
     (λ c. details-kept (c .before .loop .inv .1 .found))
-    (λ c. running-end (c .before .before .before .before .before .before .before .pre) (c .before .loop .inv .1) (omega arith)))
+    returns)

@@ -22,7 +22,9 @@ returns : tie.Need-returns Inv-loop μ-loop
 returns c p h e = counted-all p (c .if1 .taken) (c .before .before .loop .inv) h e
 
 -- entry i fits, and so has ticks
-long : (c : tie.Then2 Inv-loop μ-loop) → 0 < getD (c .before .before .before .before .before .before .args .values .now) (c .before .before .before .before .before .loop .i) 0
+long : (c : tie.Then2 Inv-loop μ-loop) →
+    let at-loop = c .before .before .before .before .before in
+    0 < getD (at-loop .before .args .values .now) (at-loop .loop .i) 0
 long c = counted-long (omega arith) (c .before .before .before .before .before .loop .inv) (sym (c .before .fits2 .ensures) ∙ c .if2 .taken)
 
 loop-again : tie.Need-loop-again Inv-loop μ-loop
@@ -49,7 +51,8 @@ count-pieces-spec =
     (λ c. omega arith)
     (λ c κs. search needs)
     (λ c. long c)
-    (λ c. omega (arith, division-few (c .before .before .before .before .before .loop .left) (getD (c .before .before .before .before .before .before .args .values .now) (c .before .before .before .before .before .loop .i) 0) (long c)))
+    (λ c. let at-loop = c .before .before .before .before .before in
+    omega (arith, division-few (at-loop .loop .left) (getD (at-loop .before .args .values .now) (at-loop .loop .i) 0) (long c)))
     (λ c. long c)
     (λ c. omega arith)
     (λ c. omega arith)

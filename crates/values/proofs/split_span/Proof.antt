@@ -16,16 +16,25 @@ loop-holds : tie.Need-loop-holds Inv-loop μ-loop
 loop-holds c = spreading-start _ _ _ _ _ (c .before .pre .0)
 
 slice-write-out : tie.Need-slice-write-out Inv-loop μ-loop
-slice-write-out c = spreading-room (c .before .before .before .before .before .loop .inv) (omega arith) (sym (c .before .before .fits2 .ensures) ∙ c .before .if1 .taken)
+slice-write-out c =
+    let at-loop = c .before .before .before .before .before in
+    spreading-room (at-loop .loop .inv) (omega arith) (sym (c .before .before .fits2 .ensures) ∙ c .before .if1 .taken)
 
 sub-left : tie.Need-sub-left Inv-loop μ-loop
-sub-left c = spreading-fits (c .before .before .before .before .before .loop .inv) (omega arith) (sym (c .before .before .fits2 .ensures) ∙ c .before .if1 .taken) .1
+sub-left c =
+    let at-loop = c .before .before .before .before .before in
+    spreading-fits (at-loop .loop .inv) (omega arith) (sym (c .before .before .fits2 .ensures) ∙ c .before .if1 .taken) .1
 
 loop-less : tie.Need-loop-less Inv-loop μ-loop
-loop-less c = let fit = spreading-fits (c .before .before .before .before .before .loop .inv) (omega arith) (sym (c .before .before .fits2 .ensures) ∙ c .before .if1 .taken) in omega arith
+loop-less c =
+    let at-loop = c .before .before .before .before .before in
+    let fit = spreading-fits (at-loop .loop .inv) (omega arith) (sym (c .before .before .fits2 .ensures) ∙ c .before .if1 .taken) in
+    omega arith
 
 loop-again : tie.Need-loop-again Inv-loop μ-loop
-loop-again c = rw (c .word .ensures) (spreading-more (c .before .before .before .before .before .loop .inv) (omega arith) (sym (c .before .before .fits2 .ensures) ∙ c .before .if1 .taken))
+loop-again c =
+    let at-loop = c .before .before .before .before .before in
+    rw (c .word .ensures) (spreading-more (at-loop .loop .inv) (omega arith) (sym (c .before .before .fits2 .ensures) ∙ c .before .if1 .taken))
 
 loop-again-2 : tie.Need-loop-again-2 Inv-loop μ-loop
 loop-again-2 c = spreading-over (c .before .before .before .before .loop .inv) (omega arith) (sym (c .before .fits2 .ensures) ∙ c .if1 .left)

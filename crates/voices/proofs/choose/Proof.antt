@@ -9,12 +9,14 @@ returns c x vs e k = known-free x e k (c .before .first-free .ensures) (c .if1 .
 
 returns-2 : tie.Need-returns-2
 returns-2 c x vs e k =
-    known-together x e k (c .before .before .before .before .first-free .ensures) (c .before .before .before .if1 .left) (c .before .first-together .ensures) (c .if2 .taken)
+    let at-first-free = c .before .before .before .before in
+    known-together x e k (at-first-free .first-free .ensures) (c .before .before .before .if1 .left) (c .before .first-together .ensures) (c .if2 .taken)
 
 returns-3 : tie.Need-returns-3
 returns-3 c x vs e k =
     let d = c .before in
-    known-cut x e k (d .before .before .before .before .first-free .ensures) (d .before .before .before .if1 .left) (d .before .first-together .ensures) (d .if2 .left)
+    let at-first-free = d .before .before .before .before in
+    known-cut x e k (at-first-free .first-free .ensures) (d .before .before .before .if1 .left) (d .before .first-together .ensures) (d .if2 .left)
     (c .earliest .ensures)
 
 pub choose-spec : {M : Type 1} → statement M

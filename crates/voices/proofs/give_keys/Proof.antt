@@ -8,9 +8,11 @@ use Rattle.voices.proofs.give_keys.Tie as tie
 
 returns : tie.Need-returns
 returns c =
-    let read = c .before .before .before .before .before .before .before .chord-at in
-    stored-as (withKeys (keysOf (c .before .before .before .before .before .before .before .before .before .before .args .c .keys))) (chordOf (read .result)) (read .ensures)
-    (rw (c .before .before .before .before .all-keys .ensures) at (c .before .before .put-chord .ensures))
+    let at-all-keys = c .before .before .before .before in
+    let at-start = at-all-keys .before .before .before .before .before .before in
+    let read = at-all-keys .before .before .before .chord-at in
+    stored-as (withKeys (keysOf (at-start .args .c .keys))) (chordOf (read .result)) (read .ensures)
+    (rw (at-all-keys .all-keys .ensures) at (c .before .before .put-chord .ensures))
 
 pub give-keys-spec : {M : Type 1} → statement M
 give-keys-spec =

@@ -18,7 +18,9 @@ entry c = c .before .before .before .before
 -- the rules choose x
 abbrev Chosen : tie.After-choose → Choice → Type 0
 Chosen c x =
-    x ≡ choose (chordAt (entry c .args .n) (entry c .args .work .now) (entry c .args .k)) (voicesAt (entry c .args .n) (entry c .args .work .now) (entry c .args .lasts .lens))
+    x
+    ≡ choose (chordAt (entry c .args .n) (entry c .args .work .now) (entry c .args .k))
+    (voicesAt (entry c .args .n) (entry c .args .work .now) (entry c .args .lasts .lens))
 
 -- voice v has a chord
 abbrev HasChord : tie.After-choose → ℕ → Type 0
@@ -76,9 +78,10 @@ cut-chord-requires c κs =
 
 push-requires-2 : tie.Need-push-requires-2
 push-requires-2 c κs =
-    let d = c .before .before .before .before .before .before .before .before in
+    let at-cut-chord = c .before .before .before in
+    let d = at-cut-chord .before .before .before .before .before in
     let f = is-squeezed d in
-    (f .voice, rw (c .before .before .before .cut-chord .ensures .kept) (entry (d .before .before) .pre .cells .area), f .few)
+    (f .voice, rw (at-cut-chord .cut-chord .ensures .kept) (entry (d .before .before) .pre .cells .area), f .few)
 
 returns : tie.Need-returns
 returns c =
@@ -88,9 +91,10 @@ returns c =
 
 returns-2 : tie.Need-returns-2
 returns-2 c =
-    let d = c .before .before .before .before .before .before .before in
+    let at-last-of = c .before .before .before .before in
+    let d = at-last-of .before .before .before in
     let read = d .before .before .before .chord-at in
-    placed-together (entry (d .before .before) .pre) (chordOf (read .result)) (read .ensures) (c .before .before .before .before .last-of .ensures)
+    placed-together (entry (d .before .before) .pre) (chordOf (read .result)) (read .ensures) (at-last-of .last-of .ensures)
     (is-together d) (c .before .before .give-keys .ensures)
 
 returns-3 : tie.Need-returns-3
@@ -98,7 +102,8 @@ returns-3 c =
     let e = c .before .before .before .before .before .before in
     let d = e .before .before .before .before .before in
     let read = d .before .before .before .chord-at in
-    placed-cut (entry (d .before .before) .pre) (chordOf (read .result)) (read .ensures) (e .before .before .last-of2 .ensures) (is-cut d) (e .cut-chord .ensures)
+    placed-cut (entry (d .before .before) .pre) (chordOf (read .result)) (read .ensures) (e .before .before .last-of2 .ensures) (is-cut d)
+    (e .cut-chord .ensures)
     (c .before .before .push2 .ensures)
 
 pub place-chord-spec : {M : Type 1} → statement M

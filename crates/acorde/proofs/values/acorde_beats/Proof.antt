@@ -1,4 +1,4 @@
--- `acorde::values::acorde_beats` meets its contract: the answer, case by case.
+-- `acorde_beats`: what `beats_of` answers, case by case.
 use mathlib.Core.Path.{subst}
 use borrow.Author.Needs.{needs}
 use Rattle.rules.specs.Calls.{beatsCall}
@@ -9,14 +9,17 @@ use Rattle.acorde.proofs.values.acorde_beats.Tie as tie
 
 returns : tie.Need-returns
 returns c =
-    let r = beatsCall (c .before .before .before .before .args .code) (c .before .before .before .before .args .dots) in
-    beats-given r (c .before .beats .given .0 .0) (subst (λ m. Exactly r (measuredAnswer m)) (c .before .beats .given .1) (c .before .before .before .beats-of .ensures))
+    let at-call = c .before .before .before in
+    let r = beatsCall (at-call .before .args .code) (at-call .before .args .dots) in
+    beats-given r (c .before .beats .given .0 .0)
+    (subst (λ m. Exactly r (measuredAnswer m)) (c .before .beats .given .1) (at-call .beats-of .ensures))
 
 returns-2 : tie.Need-returns-2
 unfolding lib.Ieee.ofBits
 returns-2 c =
-    let r = beatsCall (c .before .before .before .args .code) (c .before .before .before .args .dots) in
-    beats-refused r (subst (λ m. Exactly r (measuredAnswer m)) (c .enum-told .given .1) (c .before .before .beats-of .ensures))
+    let at-call = c .before .before in
+    let r = beatsCall (at-call .before .args .code) (at-call .before .args .dots) in
+    beats-refused r (subst (λ m. Exactly r (measuredAnswer m)) (c .enum-told .given .1) (at-call .beats-of .ensures))
 
 pub acorde-beats-spec : {M : Type 1} → statement M
 acorde-beats-spec =

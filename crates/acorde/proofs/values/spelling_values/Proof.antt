@@ -1,4 +1,4 @@
--- `acorde::values::spelling_values` meets its contract: octave and alteration keep their values in more bits.
+-- `spelling_values`: octave and alteration keep their values in more bits.
 use borrow.Author.Needs.{needs}
 use mir.Syntax.{w8}
 use mir.Val.{SFits}
@@ -22,7 +22,8 @@ returns : tie.Need-returns
 returns c =
     let o = octave-fits (c .before .before) in
     let a = alter-fits c in
-    rw (c .before .before .before .before .step-number .ensures, toZ-ofZ o, toZ-ofZ a) (rw (toZ-ofZ (sfits-widen tt o), toZ-ofZ (sfits-widen tt a)) (search needs))
+    rw (c .before .before .before .before .step-number .ensures, toZ-ofZ o, toZ-ofZ a)
+    (rw (toZ-ofZ (sfits-widen tt o), toZ-ofZ (sfits-widen tt a)) (search needs))
 
 pub spelling-values-spec : {M : Type 1} → statement M
 spelling-values-spec = tie.close (tie.spec (λ c κs. search needs) cast-t4 cast-t5 returns)

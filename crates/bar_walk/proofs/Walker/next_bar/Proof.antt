@@ -3,13 +3,14 @@ use Prim.Native.Nat.{ℕ, _*_, _/_, _≤_, _<_, _^_}
 use native.Mathlib.Nat.{mul-le-mul, div-le-self}
 use native.Mathlib.Omega.{arith}
 use borrow.Author.Needs.{needs}
+use Rattle.rules.specs.Piece.{largestSize}
 use Rattle.rules.specs.Changes.{Meter}
 use Rattle.rules.specs.Bars.{barLength}
 use Rattle.bar_walk.specs.Steps.{meterIn}
 use Rattle.bar_walk.proofs.Walker.next_bar.Statement.{statement}
 use Rattle.bar_walk.proofs.Walker.next_bar.Tie as tie
 
-short : (p : ℕ) (m : Meter) → p ≤ 65535 → m .upper < 2 ^ 32 → barLength p m < 2 ^ 51
+short : (p : ℕ) (m : Meter) → p ≤ largestSize → m .upper < 2 ^ 32 → barLength p m < 2 ^ 51
 short p m h k =
     let product : 4 * p * m .upper ≤ 262140 * 4294967295 = mul-le-mul {n₂ = 262140} {m₂ = 4294967295} (omega arith) (omega arith) in
     let whole : 4 * p * m .upper / m .lower ≤ 4 * p * m .upper = div-le-self (4 * p * m .upper) (m .lower) in

@@ -1,7 +1,8 @@
 -- `Duration::as_fraction` meets its contract: the law at each value. Assumes nothing.
 use borrow.Author.Needs.{needs}
 use Rattle.duration.proofs.Laws.{fraction-at}
-use Rattle.duration.specs.declared.Duration.the-variants.{Longa, Breve, Whole, Half, Quarter, Eighth, Sixteenth, ThirtySecond, SixtyFourth, HundredTwentyEighth}
+use Rattle.duration.specs.declared.Duration.the-variants.{Longa, Breve, Whole, Half, Quarter, Eighth, Sixteenth}
+use Rattle.duration.specs.declared.Duration.the-variants.{ThirtySecond, SixtyFourth, HundredTwentyEighth}
 use Rattle.duration.proofs.Duration.as_fraction.Statement.{statement}
 use Rattle.duration.proofs.Duration.as_fraction.Tie as tie
 

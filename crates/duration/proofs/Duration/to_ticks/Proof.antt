@@ -23,9 +23,11 @@ returns c = sym (stopped (ticks480 (codeOf (c .before .args .self)) (c .before .
 
 loop-holds : tie.Need-loop-holds Inv-loop μ-loop
 loop-holds c =
-    let d = c .before .before .before .before .args .self in
-    rw (base-ticks d (c .before .before .as-fraction .result) (c .before .before .as-fraction .ensures .0))
-    (omega arith, omega (arith, base-small d), omega (arith, base-small d), halves-all (c .before .before .before .before .args .dots) (ticksOf 480 (codeOf d) 0))
+    let at-as-fraction = c .before .before in
+    let at-start = at-as-fraction .before .before in
+    let d = at-start .args .self in
+    rw (base-ticks d (at-as-fraction .as-fraction .result) (at-as-fraction .as-fraction .ensures .0))
+    (omega arith, omega (arith, base-small d), omega (arith, base-small d), halves-all (at-start .args .dots) (ticksOf 480 (codeOf d) 0))
 
 loop-again : tie.Need-loop-again Inv-loop μ-loop
 loop-again c =

@@ -1,0 +1,4 @@
+pub mod AutomationWords
+pub mod DroppedLaws
+pub mod MarkerLaws
+pub mod MirrorLaws

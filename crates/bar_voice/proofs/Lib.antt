@@ -1,0 +1,4 @@
+pub mod Few
+pub mod InBar
+pub mod Sounding
+pub mod VoiceWalk

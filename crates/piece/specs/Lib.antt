@@ -1,2 +1,0 @@
-pub mod Bad
-pub mod Spans

@@ -1,0 +1,12 @@
+-- `answer`: each way out rewrites by its test.
+use Rattle.staffs.proofs.answer.Statement.{statement}
+use Rattle.staffs.proofs.answer.Tie as tie
+
+returns : tie.Need-returns
+returns c = rw (c .before .if1 .taken)
+
+returns-2 : tie.Need-returns-2
+returns-2 c = rw (c .if1 .left)
+
+pub answer-spec : {M : Type 1} → statement M
+answer-spec = tie.close (tie.spec returns returns-2)
