@@ -1,10 +1,13 @@
 -- Counts that stop at 2^50 decide whether a length is a piece's event count.
-use Prim.Native.Nat.{ℕ, _≤_, _<_}
-use mathlib.Core.List.{List}
+use Prim.Native.Nat.{ℕ, suc, _^_, _≤_, _<_}
+use mathlib.Core.List.{List, [], _∷_}
 use mathlib.Core.Path.{_≡_, sym, ap, _∙_}
 use native.Mathlib.Omega.{arith}
-use lib.ListN.{length, take}
+use lib.ListN.{length, getD, take, drop, length-drop}
 use lib.Seq.{take-all}
+use Rattle.rules.specs.Lists.{sum, All}
+use Rattle.laws.proofs.Lists.{All-drop}
+use Rattle.laws.proofs.Loops.{sum-all}
 use Rattle.rules.specs.Piece.{Piece, piece}
 use Rattle.rules.specs.Refusals.{firstNumber, pieceRefusals}
 use Rattle.admission.proofs.Numbers.{disagrees, number-one}
@@ -18,6 +21,16 @@ module _ {n len : ℕ} (k : Counted n len) (s : ℕ) (b : s < mostCounted) where
   other-count d e =
       let w = k .within in
       d (omega (arith, k .exact (omega arith)))
+
+-- the event counts, each of 32 bits, make less than 2^50
+all-of : (k : ℕ) (xs : List ℕ) → ((i : ℕ) → getD xs i 0 ≤ k) → All (λ n. n ≤ k) xs
+all-of k [] h = tt
+all-of k (x ∷ xs) h = (h 0, all-of k xs (λ i. h (suc i)))
+
+pub small-sum : (x : List ℕ) → ((i : ℕ) → getD x i 0 < 2 ^ 32) → length x ≤ 65537 → sum (drop 2 x) < mostCounted
+small-sum x h n =
+    let all = sum-all 4294967295 (drop 2 x) (All-drop _ 2 x (all-of 4294967295 x (λ i. omega (arith, h i)))) in
+    omega (arith, all, length-drop 2 x)
 
 -- an array with room for all holds the whole list
 pub held-whole : (l : List ℕ) (n : ℕ) (xs : List ℕ) → Held l n xs → n ≤ length xs → n < mostCounted → l ≡ take n xs

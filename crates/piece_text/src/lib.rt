@@ -1,10 +1,10 @@
 // The text of a piece, three lines of decimals, read byte by byte into lent arrays. Numbers that find no room are counted.
+use basics::LARGEST_SIZE;
 ghost use Prim.Native.Nat.{ℕ, _*_, _≤_, _<_};
 ghost use mathlib.Core.List.{List, [], _∷_, _++_};
 ghost use mathlib.Core.Logic.{_⊎_};
 ghost use mathlib.Core.Path.{_≡_};
 ghost use lib.ListN.{length};
-ghost use Rattle.rules.specs.Lists.{sum};
 ghost use Rattle.rules.specs.Piece.{Piece, piece};
 ghost use Rattle.rules.specs.Refusals.{firstNumber, pieceRefusals};
 ghost use Rattle.piece_text.specs.Text.{isDigit, isBlank, endsNumber, spoiled, withDigit, numberEnded, lineEnded, placeAfter, threeLines, putNumber, putBegun, Reading, stepped, readOn, nothingRead, ended, textPiece};
@@ -310,34 +310,6 @@ pub fn read_text(text: &[u8], sizes: &mut [u32], deltas: &mut [u32], words: &mut
     finish(reader, sizes, deltas, words)
 }
 
-// The number, as a u64.
-fn wide(n: u32) -> u64
-    ensures { λ r. ⌜ r ≡ n ⌝ }
-{
-    n as u64
-}
-
-// The number, as a usize.
-fn size(n: u32) -> usize
-    ensures { λ r. ⌜ r ≡ n ⌝ }
-{
-    n as usize
-}
-
-// The sum of a piece's event counts.
-fn total(counts: &[u32]) -> u64
-    requires { ⌜ length (now counts) ≤ 65535 ⌝ }
-    ensures { λ r. ⌜ (r ≡ sum (now (counts .entry))) × (r ≤ 4294967295 * length (now (counts .entry))) ⌝ }
-{
-    let mut n: u64 = 0;
-    let mut i = 0;
-    while i < counts.len() {
-        n += wide(counts[i]);
-        i += 1;
-    }
-    n
-}
-
 // The number of a piece with these sizes and more than 500,000 deltas or words: 1, 2 or 3.
 fn large_number(sizes: &[u32], deltas: usize, words: usize) -> u32
     requires { ⌜ (500000 < deltas) ⊎ (500000 < words) ⌝ }
@@ -348,17 +320,17 @@ fn large_number(sizes: &[u32], deltas: usize, words: usize) -> u32
     if sizes.len() < 2 {
         return 1;
     }
-    let tracks = size(sizes[1]);
-    if 65535 < tracks {
+    if LARGEST_SIZE < sizes[1] {
         return 1;
     }
+    let tracks = basics::size(sizes[1]);
     if sizes.len() != 2 + tracks {
         return 1;
     }
-    if 65535 < sizes[0] {
+    if LARGEST_SIZE < sizes[0] {
         return 1;
     }
-    let events = total(&sizes[2..]);
+    let events = admission::total(&sizes[2..]);
     if deltas as u64 != events {
         return 1;
     }

@@ -1,104 +1,127 @@
 -- `piece_text::large_number` is the first number of a piece with more events than the arrays hold.
-use Rattle.piece_text.proofs.Large.{same-count, other-count}
-use Rattle.piece_text.specs.Held.{mostCounted}
-use Rattle.admission.proofs.Numbers.{agrees, disagrees, number-one, number-two, number-three}
-use Rattle.laws.proofs.Loops.{take-rest}
-use Rattle.rules.specs.Piece.{piece, sizesAgree}
-use Rattle.rules.specs.Lists.{sum}
-use lib.ListN.{length, drop, length-drop}
+use Prim.Native.Nat.{ℕ, _+_, _≤_, _<_}
 use mathlib.Core.Bool.{true}
-use Prim.Native.Nat.{_<_}
-use native.Mathlib.Omega.{arith}
+use mathlib.Core.List.{List}
 use mathlib.Core.Logic.{⊎-elim}
 use mathlib.Core.Path.{_≡_, ap, _∙_, sym}
+use native.Mathlib.Omega.{arith}
 use borrow.Author.Needs.{needs}
+use lib.ListN.{length, getD, drop}
+use Rattle.rules.specs.Lists.{sum}
+use Rattle.rules.specs.Piece.{piece, sizesAgree}
+use Rattle.laws.proofs.Loops.{take-rest}
+use Rattle.admission.proofs.Numbers.{agrees, disagrees, number-one, number-two, number-three}
+use Rattle.piece_text.specs.Held.{mostCounted}
+use Rattle.piece_text.proofs.Large.{same-count, other-count, small-sum}
 use Rattle.piece_text.proofs.large_number.Statement.{statement}
 use Rattle.piece_text.proofs.large_number.Tie as tie
 
+-- ---- where the event counts are summed
+
+abbrev sizes : tie.After-total → List ℕ
+sizes t =
+    let at-tracks = t .before .before .before .before .before in
+    at-tracks .before .before .before .before .before .before .args .sizes .now
+
+summed : (t : tie.After-total) → t .total .result ≡ sum (drop 2 (sizes t))
+summed t = t .total .ensures ∙ ap sum (take-rest 2 (sizes t))
+
+as-many : (t : tie.After-total) → length (sizes t) ≡ 2 + getD (sizes t) 1 0
+as-many t =
+    let at-length = t .before .before .before .before in
+    omega (arith, at-length .before .size .ensures, at-length .if3 .left)
+
+few-tracks : (t : tie.After-total) → getD (sizes t) 1 0 ≤ 65535
+few-tracks t =
+    let at-tracks = t .before .before .before .before .before in
+    omega (arith, at-tracks .before .before .if2 .left)
+
+small : (t : tie.After-total) → sum (drop 2 (sizes t)) < mostCounted
+small t =
+    let at-tracks = t .before .before .before .before .before in
+    small-sum (sizes t) (λ i. omega (arith, at-tracks .before .shared-slice-known3 .given i))
+    (omega (arith, as-many t, few-tracks t))
+
+agree : (t : tie.After-total) (ds ws : List ℕ) → length ds ≡ sum (drop 2 (sizes t)) → length ws ≡ sum (drop 2 (sizes t))
+    → sizesAgree (piece (sizes t) ds ws) ≡ true
+agree t ds ws d w =
+    agrees (piece (sizes t) ds ws) (record {
+      sizes = as-many t;
+      deltas = d;
+      words = w;
+      tracks = few-tracks t;
+      division = omega (arith, t .before .before .if4 .left);
+    })
+
+-- ---- the numbers
+
 returns : tie.Need-returns
-returns c = (omega arith, λ ds ws kd kw. sym (number-one (piece (c .before .before .args .sizes .now) ds ws) (disagrees (piece (c .before .before .args .sizes .now) ds ws) (λ a. omega (arith, a .sizes)))))
-
-shared-slice-read-size : tie.Need-shared-slice-read-size
-shared-slice-read-size c = search needs
-
-size-requires : tie.Need-size-requires
-size-requires c κs = search needs
+returns c =
+    let x = c .before .before .args .sizes .now in
+    (omega arith, λ ds ws kd kw. sym (number-one (piece x ds ws) (disagrees (piece x ds ws) (λ a. omega (arith, a .sizes)))))
 
 returns-2 : tie.Need-returns-2
-returns-2 c = (omega arith, λ ds ws kd kw. sym (number-one (piece (c .before .before .before .before .before .args .sizes .now) ds ws) (disagrees (piece (c .before .before .before .before .before .args .sizes .now) ds ws) (λ a. omega (arith, a .tracks, c .before .size .ensures)))))
-
-add-if3 : tie.Need-add-if3
-add-if3 c = search needs
+returns-2 c =
+    let x = c .before .before .before .before .args .sizes .now in
+    (omega arith, λ ds ws kd kw. sym (number-one (piece x ds ws) (disagrees (piece x ds ws) (λ a. omega (arith, a .tracks)))))
 
 returns-3 : tie.Need-returns-3
-returns-3 c = (omega arith, λ ds ws kd kw. sym (number-one (piece (c .before .before .before .before .before .before .args .sizes .now) ds ws) (disagrees (piece (c .before .before .before .before .before .before .args .sizes .now) ds ws) (λ a. omega (arith, a .sizes, c .before .before .size .ensures)))))
-
-shared-slice-read-if4 : tie.Need-shared-slice-read-if4
-shared-slice-read-if4 c = search needs
-
-returns-4 : tie.Need-returns-4
-returns-4 c = (omega arith, λ ds ws kd kw. sym (number-one (piece (c .before .before .before .before .before .before .before .before .args .sizes .now) ds ws) (disagrees (piece (c .before .before .before .before .before .before .before .before .args .sizes .now) ds ws) (λ a. omega (arith, a .division)))))
-
-sub-total : tie.Need-sub-total
-sub-total c = search needs
-
-part-total-start : tie.Need-part-total-start
-part-total-start c = search needs
-
-part-total-end : tie.Need-part-total-end
-part-total-end c = search needs
-
-total-requires : tie.Need-total-requires
-total-requires c κs = search needs
-
-returns-5 : tie.Need-returns-5
-returns-5 c = let x = c .before .before .before .before .before .before .before .before .before .before .before .args .sizes .now in
-    let total : c .before .total .result ≡ sum (drop 2 x) = c .before .total .ensures .0 ∙ ap sum (take-rest 2 x) in
-    let small : sum (drop 2 x) < mostCounted = omega (arith, c .before .total .ensures .1, ap length (take-rest 2 x), length-drop 2 x, c .before .before .before .before .before .before .before .size .ensures, c .before .before .before .before .before .if3 .left, c .before .before .before .before .before .before .if2 .left) in
-    (omega arith, λ ds ws kd kw. sym (number-one (piece x ds ws) (disagrees (piece x ds ws) (λ a. other-count kd _ small (λ e. c .if5 .taken (e ∙ sym total)) (a .deltas)))))
-
-returns-6 : tie.Need-returns-6
-returns-6 c = let x = c .before .before .before .before .before .before .before .before .before .before .before .before .args .sizes .now in
-    let total : c .before .before .total .result ≡ sum (drop 2 x) = c .before .before .total .ensures .0 ∙ ap sum (take-rest 2 x) in
-    let small : sum (drop 2 x) < mostCounted = omega (arith, c .before .before .total .ensures .1, ap length (take-rest 2 x), length-drop 2 x, c .before .before .before .before .before .before .before .before .size .ensures, c .before .before .before .before .before .before .if3 .left, c .before .before .before .before .before .before .before .if2 .left) in
-    (omega arith, λ ds ws kd kw. sym (number-one (piece x ds ws) (disagrees (piece x ds ws) (λ a. other-count kw _ small (λ e. c .if6 .taken (e ∙ sym total)) (a .words)))))
-
-shared-slice-read-if7 : tie.Need-shared-slice-read-if7
-shared-slice-read-if7 c = search needs
-
-returns-7 : tie.Need-returns-7
-returns-7 c = let x = c .before .before .before .before .before .before .before .before .before .before .before .before .before .before .args .sizes .now in
-    let total : c .before .before .before .before .total .result ≡ sum (drop 2 x) = c .before .before .before .before .total .ensures .0 ∙ ap sum (take-rest 2 x) in
-    let small : sum (drop 2 x) < mostCounted = omega (arith, c .before .before .before .before .total .ensures .1, ap length (take-rest 2 x), length-drop 2 x, c .before .before .before .before .before .before .before .before .before .before .size .ensures, c .before .before .before .before .before .before .before .before .if3 .left, c .before .before .before .before .before .before .before .before .before .if2 .left) in (
+returns-3 c =
+    let at-tracks = c .before in
+    let x = at-tracks .before .before .before .before .before .before .args .sizes .now in (
       omega arith,
       λ ds ws kd kw.
-          let agree : sizesAgree (piece x ds ws) ≡ true =
-          agrees (piece x ds ws) (record {
-            sizes = omega (arith, c .before .before .before .before .before .before .before .before .before .before .size .ensures, c .before .before .before .before .before .before .before .before .if3 .left);
-            deltas = same-count kd _ small (omega (arith, total, c .before .before .before .if5 .left));
-            words = same-count kw _ small (omega (arith, total, c .before .before .if6 .left));
-            tracks = omega (arith, c .before .before .before .before .before .before .before .before .before .before .size .ensures, c .before .before .before .before .before .before .before .before .before .if2 .left);
-            division = omega (arith, c .before .before .before .before .before .before .if4 .left);
-          }) in
-          sym (number-two (piece x ds ws) agree (c .if7 .taken)),
+          sym (number-one (piece x ds ws) (disagrees (piece x ds ws) (λ a. omega (arith, a .sizes, at-tracks .size .ensures)))),
+    )
+
+returns-4 : tie.Need-returns-4
+returns-4 c =
+    let at-tracks = c .before .before .before in
+    let x = at-tracks .before .before .before .before .before .before .args .sizes .now in
+    (omega arith, λ ds ws kd kw. sym (number-one (piece x ds ws) (disagrees (piece x ds ws) (λ a. omega (arith, a .division)))))
+
+returns-5 : tie.Need-returns-5
+returns-5 c =
+    let t = c .before in
+    let other : c .before .before .before .before .before .before .before .before .before .before .before .before .args .deltas ≡ sum (drop 2 (sizes t)) → ⊥ = λ e. c .if5 .taken (e ∙ sym (summed t)) in (
+      omega arith,
+      λ ds ws kd kw.
+          sym (number-one (piece (sizes t) ds ws) (disagrees (piece (sizes t) ds ws) (λ a. other-count kd _ (small t) other (a .deltas)))),
+    )
+
+returns-6 : tie.Need-returns-6
+returns-6 c =
+    let t = c .before .before in
+    let other : c .before .before .before .before .before .before .before .before .before .before .before .before .before .args .words ≡ sum (drop 2 (sizes t)) → ⊥ = λ e. c .if6 .taken (e ∙ sym (summed t)) in (
+      omega arith,
+      λ ds ws kd kw.
+          sym (number-one (piece (sizes t) ds ws) (disagrees (piece (sizes t) ds ws) (λ a. other-count kw _ (small t) other (a .words)))),
+    )
+
+returns-7 : tie.Need-returns-7
+returns-7 c =
+    let t = c .before .before .before .before in (
+      omega arith,
+      λ ds ws kd kw.
+          let d = same-count kd _ (small t) (omega (arith, summed t, c .before .before .before .if5 .left)) in
+          let w = same-count kw _ (small t) (omega (arith, summed t, c .before .before .if6 .left)) in
+          sym (number-two (piece (sizes t) ds ws) (agree t ds ws d w) (c .if7 .taken)),
     )
 
 returns-8 : tie.Need-returns-8
-returns-8 c = let x = c .before .before .before .before .before .before .before .before .before .before .before .before .before .before .args .sizes .now in
-    let total : c .before .before .before .before .total .result ≡ sum (drop 2 x) = c .before .before .before .before .total .ensures .0 ∙ ap sum (take-rest 2 x) in
-    let small : sum (drop 2 x) < mostCounted = omega (arith, c .before .before .before .before .total .ensures .1, ap length (take-rest 2 x), length-drop 2 x, c .before .before .before .before .before .before .before .before .before .before .size .ensures, c .before .before .before .before .before .before .before .before .if3 .left, c .before .before .before .before .before .before .before .before .before .if2 .left) in (
+returns-8 c =
+    let t = c .before .before .before .before in
+    let at-tracks = t .before .before .before .before .before in
+    let start = at-tracks .before .before .before .before .before .before in (
       omega arith,
       λ ds ws kd kw.
-          let agree : sizesAgree (piece x ds ws) ≡ true =
-          agrees (piece x ds ws) (record {
-            sizes = omega (arith, c .before .before .before .before .before .before .before .before .before .before .size .ensures, c .before .before .before .before .before .before .before .before .if3 .left);
-            deltas = same-count kd _ small (omega (arith, total, c .before .before .before .if5 .left));
-            words = same-count kw _ small (omega (arith, total, c .before .before .if6 .left));
-            tracks = omega (arith, c .before .before .before .before .before .before .before .before .before .before .size .ensures, c .before .before .before .before .before .before .before .before .before .if2 .left);
-            division = omega (arith, c .before .before .before .before .before .before .if4 .left);
-          }) in
-          sym (number-three (piece x ds ws) agree (c .if7 .left)
-          (⊎-elim (λ h. omega (arith, h, same-count kd _ small (omega (arith, total, c .before .before .before .if5 .left)), total, c .before .before .before .if5 .left)) (λ h. omega (arith, h, same-count kd _ small (omega (arith, total, c .before .before .before .if5 .left)), total, c .before .before .if6 .left, c .before .before .before .if5 .left)) (c .before .before .before .before .before .before .before .before .before .before .before .before .before .before .pre))),
+          let d = same-count kd _ (small t) (omega (arith, summed t, c .before .before .before .if5 .left)) in
+          let w = same-count kw _ (small t) (omega (arith, summed t, c .before .before .if6 .left)) in
+          sym (number-three (piece (sizes t) ds ws) (agree t ds ws d w) (c .if7 .left)
+          (⊎-elim
+          (λ h. omega (arith, h, d, summed t, c .before .before .before .if5 .left))
+          (λ h. omega (arith, h, d, summed t, c .before .before .if6 .left))
+          (start .pre))),
     )
 
 pub large-number-spec : {M : Type 1} → statement M
@@ -106,19 +129,20 @@ large-number-spec =
     tie.close
     (tie.spec
     returns
-    shared-slice-read-size
-    size-requires
+    (λ c. search needs)
     returns-2
-    add-if3
+    (λ c. search needs)
+    (λ c κs. search needs)
+    (λ c. search needs)
     returns-3
-    shared-slice-read-if4
+    (λ c. search needs)
     returns-4
-    sub-total
-    part-total-start
-    part-total-end
-    total-requires
+    (λ c. search needs)
+    (λ c. search needs)
+    (λ c. search needs)
+    (λ c κs. search needs)
     returns-5
     returns-6
-    shared-slice-read-if7
+    (λ c. search needs)
     returns-7
     returns-8)
