@@ -1,31 +1,14 @@
 // Prints the pieces of a list of texts, a point behind each: text that is a piece, also with other blanks and line ends,
 // text that is none, and pieces with a refusal.
-ghost use Prim.Native.Nat.{_≤_, _<_};
-ghost use lib.ListN.{length};
-
-// Where the text at from ends: at the next zero, or at the end.
-fn end_of(texts: &[u8], from: usize) -> usize
-    requires { ⌜ from ≤ length (now texts) ⌝ }
-    ensures { λ r. ⌜ (from ≤ r) × (r ≤ length (now (texts .entry))) ⌝ }
-{
-    let mut i = from;
-    while i < texts.len() {
-        if texts[i] == 0 {
-            return i;
-        }
-        i += 1;
-    }
-    i
-}
 
 // Prints each text.
-fn print_texts(texts: &[u8]) {
+fn print_texts(list: &[u8]) {
     let mut from = 0;
-    while from < texts.len() {
-        let to = end_of(texts, from);
-        printer::print_text(&texts[from..to]);
+    while from < list.len() {
+        let to = texts::end_of(list, from);
+        printer::print_text(&list[from..to]);
         io::write_all(libc::STDOUT_FILENO, b".\n");
-        if to == texts.len() {
+        if to == list.len() {
             return;
         }
         from = to + 1;

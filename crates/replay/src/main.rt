@@ -1,7 +1,5 @@
 // Replays a stored list of the Rust reference's answers against the calls: reads the list, makes each call with arrays
 // full of other numbers, and writes a line for each answer or array that is not the list's. docs/REPLAY.md has the form.
-ghost use Prim.Native.Nat.{_≤_};
-
 mod asked;
 
 use replay_text::CALL;
@@ -75,31 +73,13 @@ fn piece_number(buf: &mut [u8; 65536], st: &mut [usize; 8]) {
     }
 }
 
-fn least(a: usize, b: usize) -> usize
-    ensures { λ r. ⌜ r ≤ b ⌝ }
-{
-    if a < b { a } else { b }
-}
-
-// So many numbers of an array's front.
-fn front(l: &[u32], n: usize) -> &[u32] {
-    let m = least(n, l.len());
-    &l[..m]
-}
-
-// Zeroes so many numbers of an array's front.
-fn clear_front(l: &mut [u32], n: usize) {
-    let m = least(n, l.len());
-    replayed::clear(&mut l[..m]);
-}
-
 // How many numbers a list has: those of the text or, where `zeros` is not 0, so many zeros.
 fn events(buf: &mut [u8; 65536], st: &mut [usize; 8], l: &mut [u32], zeros: usize) -> usize {
     let n = replay_text::narrow_list(buf, st, l);
     if zeros == 0 {
         return n;
     }
-    clear_front(l, zeros);
+    replayed::clear_front(l, zeros);
     zeros
 }
 
@@ -119,9 +99,9 @@ fn piece(
     calls_of(
         buf,
         st,
-        front(sizes, ns),
-        front(deltas, nd),
-        front(words, nw),
+        replayed::front_narrow(sizes, ns),
+        replayed::front_narrow(deltas, nd),
+        replayed::front_narrow(words, nw),
     );
 }
 

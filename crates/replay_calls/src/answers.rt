@@ -7,11 +7,8 @@ use diagnostics::DiagnosticsAnswer;
 use heads::HeadAnswer;
 use heads::PartCountAnswer;
 use heads::PartHeadAnswer;
+use replayed::Asked;
 use staffs::StaffAnswer;
-
-fn wide(x: u32) -> u64 {
-    x as u64
-}
 
 // Fifths + 8, or 0 where they are out of the range of a key.
 fn fifths_code(fifths: i32) -> u64 {
@@ -37,9 +34,9 @@ fn fifths_code(fifths: i32) -> u64 {
 
 fn head_values(h: Head, said: &mut [u64; 8]) {
     said[0] = 0;
-    said[1] = wide(h.tempo);
-    said[2] = wide(h.upper);
-    said[3] = wide(h.lower);
+    said[1] = basics::wide(h.tempo);
+    said[2] = basics::wide(h.upper);
+    said[3] = basics::wide(h.lower);
     said[4] = 0;
     said[5] = 0;
     if h.has_key {
@@ -53,7 +50,7 @@ fn head_values(h: Head, said: &mut [u64; 8]) {
 pub fn head(sizes: &[u32], deltas: &[u32], words: &[u32], said: &mut [u64; 8]) {
     match heads::head(sizes, deltas, words) {
         HeadAnswer::Refused(n) => {
-            said[0] = wide(n);
+            said[0] = basics::wide(n);
         }
         HeadAnswer::Given(h) => {
             head_values(h, said);
@@ -64,11 +61,11 @@ pub fn head(sizes: &[u32], deltas: &[u32], words: &[u32], said: &mut [u64; 8]) {
 pub fn part_count(sizes: &[u32], deltas: &[u32], words: &[u32], said: &mut [u64; 8]) {
     match heads::part_count(sizes, deltas, words) {
         PartCountAnswer::Refused(n) => {
-            said[0] = wide(n);
+            said[0] = basics::wide(n);
         }
         PartCountAnswer::Given(count) => {
             said[0] = 0;
-            said[1] = wide(count);
+            said[1] = basics::wide(count);
         }
     }
 }
@@ -76,17 +73,18 @@ pub fn part_count(sizes: &[u32], deltas: &[u32], words: &[u32], said: &mut [u64;
 pub fn part_head(sizes: &[u32], deltas: &[u32], words: &[u32], part: u32, said: &mut [u64; 8]) {
     match heads::part_head(sizes, deltas, words, part) {
         PartHeadAnswer::Refused(n) => {
-            said[0] = wide(n);
+            said[0] = basics::wide(n);
         }
         PartHeadAnswer::Given(h) => {
             said[0] = 0;
-            said[1] = wide(h.channel);
-            said[2] = wide(h.program);
+            said[1] = basics::wide(h.channel);
+            said[2] = basics::wide(h.program);
         }
     }
 }
 
 pub fn bars(
+    q: Asked,
     sizes: &[u32],
     deltas: &[u32],
     words: &[u32],
@@ -94,13 +92,15 @@ pub fn bars(
     marks: &mut [u64],
     said: &mut [u64; 8],
 ) {
-    match bars::bars(sizes, deltas, words, starts, marks) {
-        BarsAnswer::Refused(n) => {
-            said[0] = wide(n);
+    let n = replayed::least(q.a, starts.len());
+    let m = replayed::least(q.b, marks.len());
+    match bars::bars(sizes, deltas, words, &mut starts[..n], &mut marks[..m]) {
+        BarsAnswer::Refused(number) => {
+            said[0] = basics::wide(number);
         }
         BarsAnswer::Given(count) => {
             said[0] = 0;
-            said[1] = wide(count);
+            said[1] = basics::wide(count);
         }
     }
 }
@@ -108,7 +108,7 @@ pub fn bars(
 fn staff(answer: StaffAnswer, said: &mut [u64; 8]) {
     match answer {
         StaffAnswer::Refused(n) => {
-            said[0] = wide(n);
+            said[0] = basics::wide(n);
         }
         StaffAnswer::Given(size) => {
             said[0] = 0;
@@ -119,28 +119,45 @@ fn staff(answer: StaffAnswer, said: &mut [u64; 8]) {
 }
 
 pub fn staff_size(
+    q: Asked,
     sizes: &[u32],
     deltas: &[u32],
     words: &[u32],
-    part: u32,
     work: &mut [u64],
     said: &mut [u64; 8],
 ) {
-    staff(staffs::staff_size(sizes, deltas, words, part, work), said);
+    let n = replayed::least(q.work, work.len());
+    staff(
+        staffs::staff_size(sizes, deltas, words, q.part, &mut work[..n]),
+        said,
+    );
 }
 
 pub fn engrave(
+    q: Asked,
     sizes: &[u32],
     deltas: &[u32],
     words: &[u32],
-    part: u32,
     counts: &mut [u32],
     heads: &mut [u32],
     keys: &mut [u64],
     work: &mut [u64],
     said: &mut [u64; 8],
 ) {
-    let answer = staffs::engrave(sizes, deltas, words, part, counts, heads, keys, work);
+    let c = replayed::least(q.c, counts.len());
+    let h = replayed::least(q.d, heads.len());
+    let k = replayed::least(q.a, keys.len());
+    let w = replayed::least(q.work, work.len());
+    let answer = staffs::engrave(
+        sizes,
+        deltas,
+        words,
+        q.part,
+        &mut counts[..c],
+        &mut heads[..h],
+        &mut keys[..k],
+        &mut work[..w],
+    );
     staff(answer, said);
 }
 
@@ -153,17 +170,19 @@ fn automation_values(counts: Counts, said: &mut [u64; 8]) {
 }
 
 pub fn automation(
+    q: Asked,
     sizes: &[u32],
     deltas: &[u32],
     words: &[u32],
-    part: u32,
     ticks: &mut [u64],
     out: &mut [u32],
     said: &mut [u64; 8],
 ) {
-    match automation::automation(sizes, deltas, words, part, ticks, out) {
-        AutomationAnswer::Refused(n) => {
-            said[0] = wide(n);
+    let n = replayed::least(q.a, ticks.len());
+    let m = replayed::least(q.c, out.len());
+    match automation::automation(sizes, deltas, words, q.part, &mut ticks[..n], &mut out[..m]) {
+        AutomationAnswer::Refused(number) => {
+            said[0] = basics::wide(number);
         }
         AutomationAnswer::Given(counts) => {
             automation_values(counts, said);
@@ -172,6 +191,7 @@ pub fn automation(
 }
 
 pub fn diagnostics(
+    q: Asked,
     sizes: &[u32],
     deltas: &[u32],
     words: &[u32],
@@ -180,13 +200,23 @@ pub fn diagnostics(
     work: &mut [u64],
     said: &mut [u64; 8],
 ) {
-    match diagnostics::diagnostics(sizes, deltas, words, places, details, work) {
-        DiagnosticsAnswer::Refused(n) => {
-            said[0] = wide(n);
+    let n = replayed::least(q.a, places.len());
+    let m = replayed::least(q.b, details.len());
+    let w = replayed::least(q.work, work.len());
+    match diagnostics::diagnostics(
+        sizes,
+        deltas,
+        words,
+        &mut places[..n],
+        &mut details[..m],
+        &mut work[..w],
+    ) {
+        DiagnosticsAnswer::Refused(number) => {
+            said[0] = basics::wide(number);
         }
         DiagnosticsAnswer::Given(count) => {
             said[0] = 0;
-            said[1] = wide(count);
+            said[1] = basics::wide(count);
         }
     }
 }

@@ -1,13 +1,14 @@
 // The calls by number, each in arrays that are full of other numbers, with its answer as numbers: what the program `replay` compares.
 mod answers;
 
+use replayed::Asked;
+
 // Makes a call by its number. Its first two lists are of u64, the others of u32.
 fn call(
-    code: usize,
+    q: Asked,
     sizes: &[u32],
     deltas: &[u32],
     words: &[u32],
-    part: u32,
     a: &mut [u64],
     b: &mut [u64],
     c: &mut [u32],
@@ -15,43 +16,35 @@ fn call(
     work: &mut [u64],
     said: &mut [u64; 8],
 ) {
+    let code = q.code;
     match code {
         1 => answers::head(sizes, deltas, words, said),
         2 => answers::part_count(sizes, deltas, words, said),
-        3 => answers::part_head(sizes, deltas, words, part, said),
-        4 => answers::bars(sizes, deltas, words, a, b, said),
-        5 => answers::staff_size(sizes, deltas, words, part, work, said),
-        6 => answers::engrave(sizes, deltas, words, part, c, d, a, work, said),
-        7 => answers::automation(sizes, deltas, words, part, a, c, said),
-        8 => answers::diagnostics(sizes, deltas, words, a, b, work, said),
+        3 => answers::part_head(sizes, deltas, words, q.part, said),
+        4 => answers::bars(q, sizes, deltas, words, a, b, said),
+        5 => answers::staff_size(q, sizes, deltas, words, work, said),
+        6 => answers::engrave(q, sizes, deltas, words, c, d, a, work, said),
+        7 => answers::automation(q, sizes, deltas, words, a, c, said),
+        8 => answers::diagnostics(q, sizes, deltas, words, a, b, work, said),
         _ => {}
     }
 }
 
 // Fills the arrays that are lent.
-fn prepare(
-    said: &mut [u64; 8],
-    a: &mut [u64],
-    b: &mut [u64],
-    c: &mut [u32],
-    d: &mut [u32],
-    work: &mut [u64],
-) {
-    replayed::fill(said);
-    replayed::fill(a);
-    replayed::fill(b);
-    replayed::fill_narrow(c);
-    replayed::fill_narrow(d);
-    replayed::fill(work);
+fn prepare(q: Asked, a: &mut [u64], b: &mut [u64], c: &mut [u32], d: &mut [u32], work: &mut [u64]) {
+    replayed::fill_front(a, q.a);
+    replayed::fill_front(b, q.b);
+    replayed::fill_front_narrow(c, q.c);
+    replayed::fill_front_narrow(d, q.d);
+    replayed::fill_front(work, q.work);
 }
 
-// Makes the call in arrays that are full of other numbers.
+// Makes the call in arrays whose fronts, of the room asked, are full of other numbers.
 pub fn make(
-    code: usize,
+    q: Asked,
     sizes: &[u32],
     deltas: &[u32],
     words: &[u32],
-    part: u32,
     a: &mut [u64],
     b: &mut [u64],
     c: &mut [u32],
@@ -59,6 +52,7 @@ pub fn make(
     work: &mut [u64],
     said: &mut [u64; 8],
 ) {
-    prepare(said, a, b, c, d, work);
-    call(code, sizes, deltas, words, part, a, b, c, d, work, said);
+    replayed::fill(said);
+    prepare(q, a, b, c, d, work);
+    call(q, sizes, deltas, words, a, b, c, d, work, said);
 }

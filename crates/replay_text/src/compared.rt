@@ -3,8 +3,16 @@ use crate::input;
 use crate::report;
 use crate::state;
 use crate::state::FAULT;
+use replayed::Asked;
 
-// A list of the text against an array of u64: the list at its front, and behind it what stood there before the call.
+// What an array must hold: the list of the text at its front, and behind it what stood there before the call. False where the text has no such list.
+fn expected(buf: &mut [u8; 65536], st: &mut [usize; 8], wanted: &mut [u64]) -> bool {
+    replayed::fill(wanted);
+    input::list(buf, st, wanted);
+    st[FAULT] == 0
+}
+
+// A list of the text against an array of u64.
 fn check(buf: &mut [u8; 65536], st: &mut [usize; 8], want: &mut [u64], found: &[u64], what: usize) {
     let n = found.len();
     if want.len() < n {
@@ -12,9 +20,7 @@ fn check(buf: &mut [u8; 65536], st: &mut [usize; 8], want: &mut [u64], found: &[
         return;
     }
     let wanted = &mut want[..n];
-    replayed::fill(wanted);
-    input::list(buf, st, wanted);
-    if st[FAULT] == 0 {
+    if expected(buf, st, wanted) {
         report::differs(st, what, replayed::first_difference(wanted, found));
     }
 }
@@ -33,18 +39,17 @@ fn check_narrow(
         return;
     }
     let wanted = &mut want[..n];
-    replayed::fill(wanted);
-    input::list(buf, st, wanted);
-    if st[FAULT] == 0 {
+    if expected(buf, st, wanted) {
         report::differs(st, what, replayed::first_difference_narrow(wanted, found));
     }
 }
 
-// What the call left, against the list: its answer, its lists, and the work area, which is zero. A call without one is lent none.
+// What the call left, against the list: its answer, its lists, each in the room asked, and the work area, which is zero. A call without one is lent none.
 pub fn compare(
     buf: &mut [u8; 65536],
     st: &mut [usize; 8],
     want: &mut [u64; 45056],
+    q: Asked,
     said: &[u64; 8],
     a: &[u64],
     b: &[u64],
@@ -53,11 +58,15 @@ pub fn compare(
     work: &[u64],
 ) {
     check(buf, st, want, said, 0);
-    check(buf, st, want, a, 1);
-    check(buf, st, want, b, 2);
-    check_narrow(buf, st, want, c, 3);
-    check_narrow(buf, st, want, d, 4);
+    check(buf, st, want, replayed::front(a, q.a), 1);
+    check(buf, st, want, replayed::front(b, q.b), 2);
+    check_narrow(buf, st, want, replayed::front_narrow(c, q.c), 3);
+    check_narrow(buf, st, want, replayed::front_narrow(d, q.d), 4);
     if st[FAULT] == 0 {
-        report::differs(st, 5, replayed::first_not_zero(work));
+        report::differs(
+            st,
+            5,
+            replayed::first_not_zero(replayed::front(work, q.work)),
+        );
     }
 }

@@ -2,8 +2,11 @@
 ghost use Prim.Native.Nat.{_≤_};
 use crate::state;
 use crate::state::AT;
+use crate::state::CODE;
 use crate::state::END;
 use crate::state::FAULT;
+use crate::state::ROOM;
+use replayed::Asked;
 use replayed::Scanned;
 
 // The next chunk; false where there is none.
@@ -109,4 +112,25 @@ pub fn narrow_list(buf: &mut [u8; 65536], st: &mut [usize; 8], out: &mut [u32]) 
         i += 1;
     }
     n
+}
+
+// The next call that is asked.
+pub fn next_call(buf: &mut [u8; 65536], st: &mut [usize; 8]) -> Asked {
+    let code = limited(buf, st, 99);
+    let part = narrow(buf, st, true);
+    let a = limited(buf, st, ROOM);
+    let b = limited(buf, st, ROOM);
+    let c = limited(buf, st, ROOM);
+    let d = limited(buf, st, ROOM);
+    let work = limited(buf, st, ROOM);
+    st[CODE] = code;
+    Asked {
+        code,
+        part,
+        a,
+        b,
+        c,
+        d,
+        work,
+    }
 }

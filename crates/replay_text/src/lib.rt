@@ -7,15 +7,14 @@ mod state;
 
 pub use compared::compare;
 pub use input::limited;
-pub use input::narrow;
 pub use input::narrow_list;
+pub use input::next_call;
 pub use input::number;
 pub use report::fault_line;
 pub use report::says;
 pub use report::total;
 pub use state::CALL;
 pub use state::CALLS;
-pub use state::CODE;
 pub use state::ENDS;
 pub use state::FAULT;
 pub use state::PIECE;

@@ -9,49 +9,44 @@ use crate::state::WRONG;
 use replayed::Difference;
 
 fn call_name(code: usize) {
-    match code {
-        1 => io::write_all(1, b"head "),
-        2 => io::write_all(1, b"part count "),
-        3 => io::write_all(1, b"part head "),
-        4 => io::write_all(1, b"bars "),
-        5 => io::write_all(1, b"staff size "),
-        6 => io::write_all(1, b"engrave "),
-        7 => io::write_all(1, b"automation "),
-        8 => io::write_all(1, b"diagnostics "),
-        _ => io::write_all(1, b"no such call "),
-    }
-    ;
+    let names =
+        b"no such call \x00head \x00part count \x00part head \x00bars \x00staff size \x00engrave \x00automation \x00diagnostics ";
+    let n = if 8 < code { 0 } else { code };
+    io::write_all(1, texts::nth(names, n));
 }
 
-// An array by the call's number and its own: 0 the answer, 1 to 4 the lists, 5 the work area.
-fn list_name(code: usize, what: usize) {
+// The place of an array's name in `list_name`'s texts, by the call's number and its own: 0 the answer, 1 to 4 the lists, 5 the work area.
+fn list_place(code: usize, what: usize) -> usize {
     if what == 0 {
-        io::write_all(1, b"answer");
-        return;
+        return 1;
     }
     if what == 5 {
-        io::write_all(1, b"work");
-        return;
+        return 2;
     }
     if 8 < code {
-        return;
+        return 12;
     }
     if 8 < what {
-        return;
+        return 12;
     }
     match code * 8 + what {
-        33 => io::write_all(1, b"starts"),
-        34 => io::write_all(1, b"marks"),
-        49 => io::write_all(1, b"keys"),
-        51 => io::write_all(1, b"counts"),
-        52 => io::write_all(1, b"heads"),
-        57 => io::write_all(1, b"ticks"),
-        59 => io::write_all(1, b"words"),
-        65 => io::write_all(1, b"places"),
-        66 => io::write_all(1, b"details"),
-        _ => io::write_all(1, b"list"),
+        33 => 3,
+        34 => 4,
+        49 => 5,
+        51 => 6,
+        52 => 7,
+        57 => 8,
+        59 => 9,
+        65 => 10,
+        66 => 11,
+        _ => 0,
     }
-    ;
+}
+
+fn list_name(code: usize, what: usize) {
+    let names =
+        b"list\x00answer\x00work\x00starts\x00marks\x00keys\x00counts\x00heads\x00ticks\x00words\x00places\x00details";
+    io::write_all(1, texts::nth(names, list_place(code, what)));
 }
 
 // A line's begin. Each is a disagreement.
@@ -86,12 +81,14 @@ pub fn says(st: &mut [usize; 8], text: &[u8]) {
 
 // A line where the list could not be read to its end.
 pub fn fault_line(st: &mut [usize; 8]) {
-    match st[FAULT] {
-        state::ENDS => says(st, b"the list ends early"),
-        state::WORD => says(st, b"no number where one is due"),
-        state::LARGE => says(st, b"too large a number"),
-        _ => says(st, b"too long"),
-    }
+    let reasons =
+        b"too long\x00the list ends early\x00no number where one is due\x00too large a number";
+    let n = if state::LARGE < st[FAULT] {
+        0
+    } else {
+        st[FAULT]
+    };
+    says(st, texts::nth(reasons, n));
 }
 
 // The last line.

@@ -17,6 +17,9 @@ pub const CALLS: usize = 6;
 
 pub const WRONG: usize = 7;
 
+// The most that an array which is lent holds.
+pub const ROOM: usize = 45056;
+
 // Faults.
 pub const ENDS: usize = 1;
 

@@ -1,4 +1,5 @@
 // What the program `replay` does on slices: decimals read from a text byte by byte, numbers put into arrays before they are lent, and the first index at which two lists differ.
+ghost use Prim.Native.Nat.{_≤_};
 ghost use mathlib.Core.Path.{_≡_};
 ghost use lib.ListN.{length, drop, replicate};
 ghost use Rattle.replayed.specs.Decimals.{digit, begunBy, goneOnBy, stepped, ended, scanned};
@@ -134,7 +135,7 @@ pub fn fill_narrow(l: &mut [u32])
 }
 
 // Zeroes an array.
-pub fn clear(l: &mut [u32])
+fn clear(l: &mut [u32])
     ensures { λ _. ⌜ now (l .exit) ≡ replicate (length (now (l .entry))) 0 ⌝ }
 {
     let mut i = 0;
@@ -142,6 +143,51 @@ pub fn clear(l: &mut [u32])
         l[i] = 0;
         i += 1;
     }
+}
+
+// Fills so many numbers of an array's front.
+pub fn fill_front(l: &mut [u64], n: usize) {
+    let m = least(n, l.len());
+    fill(&mut l[..m]);
+}
+
+pub fn fill_front_narrow(l: &mut [u32], n: usize) {
+    let m = least(n, l.len());
+    fill_narrow(&mut l[..m]);
+}
+
+// Zeroes so many numbers of an array's front.
+pub fn clear_front(l: &mut [u32], n: usize) {
+    let m = least(n, l.len());
+    clear(&mut l[..m]);
+}
+
+// A call that is asked: its number, its part, and the room of each array that is lent to it.
+pub struct Asked {
+    pub code: usize,
+    pub part: u32,
+    pub a: usize,
+    pub b: usize,
+    pub c: usize,
+    pub d: usize,
+    pub work: usize,
+}
+
+pub fn least(a: usize, b: usize) -> usize
+    ensures { λ r. ⌜ r ≤ b ⌝ }
+{
+    if a < b { a } else { b }
+}
+
+// So many numbers of an array's front, or the whole array where it has fewer.
+pub fn front(l: &[u64], n: usize) -> &[u64] {
+    let m = least(n, l.len());
+    &l[..m]
+}
+
+pub fn front_narrow(l: &[u32], n: usize) -> &[u32] {
+    let m = least(n, l.len());
+    &l[..m]
 }
 
 pub enum Difference {

@@ -1,3 +1,4 @@
+-- `print_cases::print_texts` is safe and ends. Invariant: the next text begins within the list; the measure is what is left of the list.
 use Prim.Native.Nat.{_-_, _≤_}
 use mathlib.Core.Path.{_≡_}
 use native.Mathlib.Omega.{arith}
@@ -11,41 +12,14 @@ Inv-loop texts from₀ t4 from = (from ≤ length texts) × (length t4 ≡ 2)
 abbrev μ-loop : tie.MeasureT-loop
 μ-loop texts from₀ t4 from = length texts - from
 
-loop-holds : tie.Need-loop-holds Inv-loop μ-loop
-loop-holds c = omega arith
-
-end-of-requires : tie.Need-end-of-requires Inv-loop μ-loop
-end-of-requires c κs = omega arith
-
-sub-print-text : tie.Need-sub-print-text Inv-loop μ-loop
-sub-print-text c = omega arith
-
-part-print-text-start : tie.Need-part-print-text-start Inv-loop μ-loop
-part-print-text-start c = omega arith
-
-part-print-text-end : tie.Need-part-print-text-end Inv-loop μ-loop
-part-print-text-end c = omega arith
-
 print-text-requires : tie.Need-print-text-requires Inv-loop μ-loop
 print-text-requires c κs = tt
-
-slice-aggregate-write-all : tie.Need-slice-aggregate-write-all Inv-loop μ-loop
-slice-aggregate-write-all c = omega arith
 
 write-all-requires : tie.Need-write-all-requires Inv-loop μ-loop
 write-all-requires c κs = tt
 
 returns : tie.Need-returns Inv-loop μ-loop
 returns c = tt
-
-add-from : tie.Need-add-from Inv-loop μ-loop
-add-from c = omega arith
-
-loop-less : tie.Need-loop-less Inv-loop μ-loop
-loop-less c = omega arith
-
-loop-again : tie.Need-loop-again Inv-loop μ-loop
-loop-again c = omega arith
 
 returns-2 : tie.Need-returns-2 Inv-loop μ-loop
 returns-2 c = tt
@@ -56,16 +30,16 @@ print-texts-spec =
     (tie.spec
     Inv-loop
     μ-loop
-    loop-holds
-    end-of-requires
-    sub-print-text
-    part-print-text-start
-    part-print-text-end
+    (λ c. omega arith)
+    (λ c κs. omega arith)
+    (λ c. omega arith)
+    (λ c. omega arith)
+    (λ c. omega arith)
     print-text-requires
-    slice-aggregate-write-all
+    (λ c. omega arith)
     write-all-requires
     returns
-    add-from
-    loop-less
-    loop-again
+    (λ c. omega arith)
+    (λ c. omega arith)
+    (λ c. omega arith)
     returns-2)

@@ -1,10 +1,10 @@
--- `replayed::clear` zeroes an array. The invariant: the first i numbers are 0, and the others as they were.
-use Prim.Native.Nat.{ℕ, _-_, _≤_}
-use mathlib.Core.List.{List, _++_, append-nil}
-use mathlib.Core.Path.{_≡_, refl, ap, _∙_}
+-- `replayed::clear` zeroes an array. Invariant: the first i numbers are 0, and the others as they were.
+use Prim.Native.Nat.{_-_, _≤_}
+use mathlib.Core.List.{_++_}
+use mathlib.Core.Path.{_≡_, refl}
 use native.Mathlib.Omega.{arith}
-use borrow.Author.Fill.{fill-more}
-use lib.ListN.{length, set, drop, replicate, length-set, drop-of-length-le}
+use lib.ListN.{length, drop, replicate, length-set}
+use Rattle.replayed.proofs.Laws.{zeros-more, front-whole}
 use Rattle.replayed.proofs.clear.Statement.{statement}
 use Rattle.replayed.proofs.clear.Tie as tie
 
@@ -13,21 +13,6 @@ Inv-loop l₀ i₀ l i = (i ≤ length l₀) × (length l ≡ length l₀) × (l
 
 abbrev μ-loop : tie.MeasureT-loop
 μ-loop l₀ i₀ l i = length l₀ - i
-
-loop-again : tie.Need-loop-again Inv-loop μ-loop
-loop-again c =
-    let inv = c .before .loop .inv in (
-      omega arith,
-      simp length-set (inv .1),
-      ap (λ (l : List ℕ). set l (c .before .loop .i) 0) (inv .2) ∙ fill-more (c .before .loop .i) 0 (c .before .before .args .l .now) (omega arith),
-    )
-
-returns : tie.Need-returns Inv-loop μ-loop
-returns c =
-    let inv = c .before .loop .inv in
-    let l = c .before .before .args .l .now in
-    let last : c .before .loop .i ≡ length l = omega arith in
-    inv .2 ∙ rw (last, drop-of-length-le l {i = length l} (omega arith), append-nil)
 
 pub clear-spec : {M : Type 1} → statement M
 clear-spec =
@@ -40,6 +25,10 @@ clear-spec =
     (λ c. omega arith)
     (λ c. omega arith)
     (λ c. omega arith)
-    loop-again
+    (λ c. (
+      omega arith,
+      simp length-set (c .before .loop .inv .1),
+      zeros-more (c .before .before .args .l .now) (c .before .loop .l) (c .before .loop .i) (omega arith) (c .before .loop .inv .2),
+    ))
     (λ c. c .before .loop .inv .1)
-    returns)
+    (λ c. front-whole (λ n. replicate n 0) (c .before .before .args .l .now) _ (c .before .loop .i) (omega arith) (omega arith) (c .before .loop .inv .2)))

@@ -26,21 +26,25 @@ returns c =
     let at = c .before .before .before .loop in
     let l = c .before .before .before .before .args .l .now in
     let size = length-replicate {A = ℕ} (length l) 0 in
-    sym (differ-here (replicate (length l) 0) l (at .i) (omega arith) (omega arith) (λ e. c .if1 .taken (sym e ∙ zero-at l (at .i) (omega arith)))) ∙ at .inv .1
+    differ-here (replicate (length l) 0) l (at .i) (at .inv .1) (omega arith) (omega arith)
+    (λ e. c .if1 .taken (sym e ∙ zero-at l (at .i) (omega arith)))
 
 loop-again : tie.Need-loop-again Inv-loop μ-loop
 loop-again c =
     let at = c .before .before .before .loop in
     let l = c .before .before .before .before .args .l .now in
-    let size = length-replicate {A = ℕ} (length l) 0 in
-    (omega arith, sym (differ-more (replicate (length l) 0) l (at .i) (omega arith) (omega arith) (zero-at l (at .i) (omega arith) ∙ sym (c .if1 .left))) ∙ at .inv .1)
+    let size = length-replicate {A = ℕ} (length l) 0 in (
+      omega arith,
+      differ-more (replicate (length l) 0) l (at .i) (at .inv .1) (omega arith) (omega arith)
+          (zero-at l (at .i) (omega arith) ∙ sym (c .if1 .left)),
+    )
 
 returns-2 : tie.Need-returns-2 Inv-loop μ-loop
 returns-2 c =
     let at = c .before .loop in
     let l = c .before .before .args .l .now in
     let size = length-replicate {A = ℕ} (length l) 0 in
-    sym (differ-end (replicate (length l) 0) l (at .i) (omega arith) (omega arith)) ∙ at .inv .1
+    differ-end (replicate (length l) 0) l (at .i) (at .inv .1) (omega arith) (omega arith)
 
 pub first-not-zero-spec : {M : Type 1} → statement M
 first-not-zero-spec =

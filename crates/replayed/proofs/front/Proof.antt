@@ -1,9 +1,9 @@
--- `replay::front` is safe: the part is at most the whole.
+-- `replayed::front` is safe: the part is at most the whole.
 use mathlib.Core.Path.{sym}
 use lib.Seq.{length-take-le}
 use borrow.Author.Needs.{needs}
-use Rattle.replay.proofs.front.Statement.{statement}
-use Rattle.replay.proofs.front.Tie as tie
+use Rattle.replayed.proofs.front.Statement.{statement}
+use Rattle.replayed.proofs.front.Tie as tie
 
 slice-aggregate-result : tie.Need-slice-aggregate-result
 slice-aggregate-result c = sym (length-take-le _ _ (c .before .least .ensures))

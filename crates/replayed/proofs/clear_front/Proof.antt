@@ -1,9 +1,9 @@
--- `replay::clear_front` is safe: the part is at most the whole.
+-- `replayed::clear_front` is safe: the part is at most the whole.
 use mathlib.Core.Path.{sym}
 use lib.Seq.{length-take-le}
 use borrow.Author.Needs.{needs}
-use Rattle.replay.proofs.clear_front.Statement.{statement}
-use Rattle.replay.proofs.clear_front.Tie as tie
+use Rattle.replayed.proofs.clear_front.Statement.{statement}
+use Rattle.replayed.proofs.clear_front.Tie as tie
 
 slice-aggregate-clear : tie.Need-slice-aggregate-clear
 slice-aggregate-clear c = sym (length-take-le _ _ (c .before .least .ensures))

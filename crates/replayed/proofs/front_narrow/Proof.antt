@@ -1,0 +1,12 @@
+-- `replayed::front_narrow` is safe: the part is at most the whole.
+use mathlib.Core.Path.{sym}
+use lib.Seq.{length-take-le}
+use borrow.Author.Needs.{needs}
+use Rattle.replayed.proofs.front_narrow.Statement.{statement}
+use Rattle.replayed.proofs.front_narrow.Tie as tie
+
+slice-aggregate-result : tie.Need-slice-aggregate-result
+slice-aggregate-result c = sym (length-take-le _ _ (c .before .least .ensures))
+
+pub front-narrow-spec : {M : Type 1} → statement M
+front-narrow-spec = tie.close (tie.spec (λ c κs. search needs) slice-aggregate-result (λ c. search needs))
