@@ -1,6 +1,6 @@
 // The pages of a part: its line, then each bar's line with the lines of its items, written out where the page is nearly full.
 //
-// No contract can say what is written, so these say only what a caller's bounds need. The lines are those of `pages`.
+// No contract can say what is written, so these say only what a caller's bounds need. The lines are those of `item_lines` and `bar_lines`.
 use basics::LARGEST_SIZE;
 use basics::MOST_BARS;
 use libc::STDOUT_FILENO;
@@ -24,7 +24,7 @@ pub fn write_page(page: &[u8; 65536], n: usize)
 // Prints a refusal.
 pub fn print_refused(number: u32) {
     let mut out = io::large_buffer();
-    let n = pages::put_refused(&mut out, 0, basics::wide(number));
+    let n = bar_lines::put_refused(&mut out, 0, basics::wide(number));
     write_page(&out, n);
 }
 
@@ -66,7 +66,7 @@ fn print_items(
             return Spot { at, item };
         }
         let room = make_room(out, at);
-        at = pages::put_item(
+        at = item_lines::put_item(
             out,
             room,
             voice,
@@ -127,7 +127,7 @@ fn print_bars(
     let mut bar = 0;
     while bar < bars {
         let room = make_room(out, spot.at);
-        let line = pages::put_bar(out, room, p, bar as u64 + 1, starts[bar], marks[bar]);
+        let line = bar_lines::put_bar(out, room, p, bar as u64 + 1, starts[bar], marks[bar]);
         spot = print_voices(
             counts,
             bar,
@@ -167,6 +167,6 @@ pub fn print_part(
         return at;
     }
     let room = make_room(out, at);
-    let line = pages::put_part(out, room, basics::wide(part), bars as u64);
+    let line = bar_lines::put_part(out, room, basics::wide(part), bars as u64);
     print_bars(p, bars, starts, marks, counts, heads, keys, line, out)
 }

@@ -9,7 +9,7 @@ use Rattle.replayed.specs.Decimals.{digit, gap, ended, scanned, decimal}
 use Rattle.replayed.specs.Differences.{difference}
 use Rattle.replayed.specs.declared.Scanned.{Scanned}
 use Rattle.replayed.specs.declared.Scanned.the-variants.{Before, Number}
-use Rattle.replayed.specs.declared.Difference.the-variants.{At, Nothing}
+use Rattle.replayed.specs.declared.Difference.the-variants.{Nothing}
 
 -- a text read in two chunks is read as in one
 abbrev pub ChunksAgree : Type 0

@@ -1,3 +1,4 @@
+-- `part_pages::print_voices` is safe and ends. Invariant: the page ends within its buffer; the measure is the voices that are left.
 use Prim.Native.Nat.{_-_, _≤_}
 use native.Mathlib.Omega.{arith}
 use Rattle.part_pages.proofs.print_voices.Statement.{statement}

@@ -1,3 +1,4 @@
+-- `part_pages::write_first` is safe: the bytes are at most the page.
 use native.Mathlib.Omega.{arith}
 use lib.Seq.{length-take-le}
 use mathlib.Core.Path.{sym}

@@ -1,3 +1,4 @@
+-- `piece_input::read_all` is safe and ends. Invariant: the arrays keep their lengths; the measure is the turns that are left.
 use lib.ListN.{length}
 use mathlib.Core.Path.{_≡_}
 use native.Mathlib.Omega.{arith}

@@ -1,3 +1,4 @@
+-- `piece_text::ends_number` is the test of a byte that ends a number.
 use mathlib.Core.Path.{_∙_, sym}
 use borrow.Author.Needs.{needs}
 use Rattle.piece_text.proofs.ends_number.Statement.{statement}

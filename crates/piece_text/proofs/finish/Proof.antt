@@ -1,3 +1,4 @@
+-- `piece_text::finish` stores a number that the text's end ends, where the text has three lines.
 use Rattle.piece_text.specs.Text.{ended}
 use Rattle.piece_text.specs.Held.{Answers}
 use mathlib.Core.Path.{_∙_, sym}

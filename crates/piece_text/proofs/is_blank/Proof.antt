@@ -1,3 +1,4 @@
+-- `piece_text::is_blank` is the test of a blank.
 use borrow.Author.Tests.{eq-eqb, ne-eqb}
 use Rattle.piece_text.proofs.is_blank.Statement.{statement}
 use Rattle.piece_text.proofs.is_blank.Tie as tie

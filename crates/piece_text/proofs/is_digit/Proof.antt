@@ -1,3 +1,4 @@
+-- `piece_text::is_digit` is the test of a digit.
 use borrow.Author.Tests.{le-leb, lt-leb}
 use Rattle.piece_text.proofs.is_digit.Statement.{statement}
 use Rattle.piece_text.proofs.is_digit.Tie as tie

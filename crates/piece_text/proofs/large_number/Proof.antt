@@ -1,3 +1,4 @@
+-- `piece_text::large_number` is the first number of a piece with more events than the arrays hold.
 use Rattle.piece_text.proofs.Large.{same-count, other-count}
 use Rattle.piece_text.specs.Held.{mostCounted}
 use Rattle.admission.proofs.Numbers.{agrees, disagrees, number-one, number-two, number-three}

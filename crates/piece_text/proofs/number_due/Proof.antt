@@ -1,3 +1,4 @@
+-- `piece_text::number_due` answers 0 where the arrays hold the piece whole, else its number: 1, 2 or 3.
 use Rattle.piece_text.proofs.Large.{whole-piece}
 use Prim.Native.Nat.{_≤_}
 use mathlib.Core.Path.{refl}

@@ -1,3 +1,4 @@
+-- `piece_text::read_bytes` reads bytes. Invariant: reading on with what is left is reading the whole.
 use mathlib.Core.Path.{_∙_}
 use Rattle.piece_text.specs.Held.{ReadingHeld}
 use Rattle.piece_text.specs.Text.{Reading, readOn}

@@ -1,3 +1,4 @@
+-- `piece_text::read_text` reads a whole text from the start to the end.
 use borrow.Author.Needs.{needs}
 use Rattle.piece_text.proofs.read_text.Statement.{statement}
 use Rattle.piece_text.proofs.read_text.Tie as tie

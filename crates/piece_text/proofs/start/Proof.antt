@@ -1,3 +1,4 @@
+-- `piece_text::start` has read nothing.
 use Rattle.piece_text.proofs.Reading.{none-held}
 use mathlib.Core.Path.{refl}
 use Rattle.piece_text.proofs.start.Statement.{statement}

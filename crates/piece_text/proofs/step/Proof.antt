@@ -1,3 +1,4 @@
+-- `piece_text::step` reads one byte.
 use mathlib.Core.Path.{_∙_, sym}
 use borrow.Author.Needs.{needs}
 use Rattle.piece_text.proofs.step.Statement.{statement}

@@ -1,3 +1,4 @@
+-- `piece_text::store` stores a number behind those that are held, or only counts it.
 use Rattle.piece_text.proofs.Reading.{held-stored, held-counted, held-full}
 use borrow.Author.Needs.{needs}
 use Rattle.piece_text.proofs.store.Statement.{statement}

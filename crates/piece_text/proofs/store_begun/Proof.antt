@@ -1,3 +1,4 @@
+-- `piece_text::store_begun` stores the number that was begun, if one was.
 use borrow.Author.Needs.{needs}
 use Rattle.piece_text.proofs.store_begun.Statement.{statement}
 use Rattle.piece_text.proofs.store_begun.Tie as tie

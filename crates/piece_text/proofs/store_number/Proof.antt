@@ -1,3 +1,4 @@
+-- `piece_text::store_number` stores a number in its line's array.
 use Rattle.piece_text.specs.Text.{putNumber}
 use borrow.Author.Tests.{eq-eqb, ne-eqb}
 use borrow.Author.Needs.{needs}

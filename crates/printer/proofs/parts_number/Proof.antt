@@ -1,3 +1,4 @@
+-- `printer::parts_number` is safe and ends. Invariant: the work area keeps its length; the measure is the parts that are left.
 use lib.ListN.{length}
 use mathlib.Core.Path.{_≡_}
 use Prim.Native.Nat.{_-_}

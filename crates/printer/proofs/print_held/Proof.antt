@@ -1,3 +1,4 @@
+-- `printer::print_held` is safe: what the arrays hold whole is at most their lengths, by what `number_due` ensures.
 use lib.Seq.{length-take-le}
 use mathlib.Core.Path.{sym}
 use native.Mathlib.Omega.{arith}

@@ -1,3 +1,4 @@
+-- `piece_text::Place::after` is the place behind one byte more.
 use mathlib.Core.Bool.{and-eq-true-iff}
 use borrow.Author.Tests.{leb-true}
 use Rattle.piece_text.specs.Text.{placeAfter}

@@ -1,3 +1,4 @@
+-- `piece_text::Place::digit` is the place behind a digit.
 use borrow.Author.Tests.{lt-ltb, le-ltb}
 use borrow.Author.Needs.{needs}
 use Rattle.piece_text.proofs.Place.digit.Statement.{statement}

@@ -1,3 +1,4 @@
+-- `piece_text::Place::has_three_lines` is the test of three lines.
 use borrow.Author.Tests.{eq-eqb, ne-eqb}
 use borrow.Author.Needs.{needs}
 use Rattle.piece_text.proofs.Place.has_three_lines.Statement.{statement}

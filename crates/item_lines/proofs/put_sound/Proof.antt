@@ -1,0 +1,35 @@
+-- `item_lines::put_sound` puts `rest`, or the keys of both words.
+use lib.ListN.{take}
+use mathlib.Core.List.{[]}
+use Rattle.item_lines.specs.Items.{soundText}
+use borrow.Author.Tests.{eq-eqb, ne-eqb}
+use native.Mathlib.Omega.{arith}
+use Rattle.line_text.proofs.Texts.{adds-most}
+use Rattle.item_lines.proofs.Commas.{adds-keys, no-keys}
+use borrow.Author.Needs.{needs}
+use Rattle.item_lines.proofs.put_sound.Statement.{statement}
+use Rattle.item_lines.proofs.put_sound.Tie as tie
+
+returns : tie.Need-returns
+unfolding soundText
+returns c = rw (eq-eqb _ _ (c .before .before .before .before .before .if1 .taken)) (adds-most (omega arith) (c .before .before .put-text .ensures))
+
+returns-2 : tie.Need-returns-2
+unfolding soundText
+returns-2 c = let a = c .before .before .before .before .before .before .before .before .before .before .args in
+    rw (ne-eqb _ _ (c .before .before .before .before .before .before .before .before .if1 .left))
+    (adds-keys (omega (arith, c .before .before .put-keys2 .ensures .0, c .before .before .before .before .before .before .put-keys .ensures .0))
+    (c .before .before .put-keys2 .ensures .1 _ _ (c .before .before .before .before .before .before .put-keys .ensures .1 (take (a .at) (a .out .now)) [] (no-keys (a .at) (a .out .now)))))
+
+pub put-sound-spec : {M : Type 1} → statement M
+put-sound-spec =
+    tie.close
+    (tie.spec
+    (λ c. search needs)
+    (λ c κs. search needs)
+    (λ c. search needs)
+    returns
+    (λ c κs. search needs)
+    (λ c κs. search needs)
+    (λ c. search needs)
+    returns-2)
