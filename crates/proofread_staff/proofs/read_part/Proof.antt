@@ -17,9 +17,7 @@ use Rattle.proofread_staff.proofs.read_part.Tie as tie
 
 -- the function's start, from behind the measuring
 abbrev start : tie.After-measure → tie.Start
-start c =
-    let at-shared-slice-known4 = c .before .before .before .before in
-    at-shared-slice-known4 .before .before .before .before
+start c = c .before .before .before .before .before .before .before .before
 
 abbrev notes : tie.Start → List RawNote
 notes c = rawsAt (c .args .n) (c .args .m) (c .args .work .now)
@@ -35,9 +33,7 @@ right c =
 
 measure-requires : tie.Need-measure-requires
 measure-requires c κs =
-    let at-shared-slice-known4 = c .before .before .before in
-    let at-start = at-shared-slice-known4 .before .before .before .before in
-    let q = at-start .pre in
+    let q = c .before .before .before .before .before .before .before .pre in
     (q .0, q .2, c .smallest-value .ensures .1)
 
 returns : tie.Need-returns
@@ -85,11 +81,8 @@ read-staff-requires c κs =
     )
 
 -- the arrays fit: the answer is the staff's
-decided : (c : tie.After-read-staff) →
-    let at-shaped = c .before .before .before in
-    let at-measure = at-shaped .before .before .before .before in
-    {b : Bool} → c .read-staff .result ≡ b
-    → given b ≡ right (start at-measure)
+decided : (c : tie.After-read-staff) {b : Bool} → c .read-staff .result ≡ b
+    → given b ≡ right (start (c .before .before .before .before .before .before .before))
 decided c e =
     let at-fit = c .before .before in
     let at-shaped = at-fit .before in
