@@ -10,7 +10,11 @@ use Rattle.bar_lines.proofs.put_bar_head.Tie as tie
 
 returns : tie.Need-returns
 unfolding barHead
-returns c = (adds-both (adds-both (adds-both (c .before .before .before .before .before .before .before .before .before .before .before .before .before .before .put-text .ensures) (c .before .before .before .before .before .before .before .before .before .before .put-decimal .ensures)) (c .before .before .before .before .before .before .put-next .ensures)) (adds-eq (ap (λ l. 32 ∷ decimal l) (c .before .before .before .before .before .before .before .before .before .before .before .before .before .before .before .before .before .bar-length .ensures)) (c .before .before .put-next2 .ensures)))
+returns c =
+    let at-put-next = c .before .before .before .before .before .before in
+    let at-put-decimal = at-put-next .before .before .before .before in
+    let at-put-text = at-put-decimal .before .before .before .before in
+    (adds-both (adds-both (adds-both (at-put-text .put-text .ensures) (at-put-decimal .put-decimal .ensures)) (at-put-next .put-next .ensures)) (adds-eq (ap (λ l. 32 ∷ decimal l) (at-put-text .before .before .before .bar-length .ensures)) (c .before .before .put-next2 .ensures)))
 
 pub put-bar-head-spec : {M : Type 1} → statement M
 put-bar-head-spec =

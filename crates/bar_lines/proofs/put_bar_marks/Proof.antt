@@ -7,7 +7,14 @@ use Rattle.bar_lines.proofs.put_bar_marks.Tie as tie
 
 returns : tie.Need-returns
 unfolding barMarks
-returns c = (adds-both (adds-both (adds-both (adds-both (c .before .before .before .before .before .before .before .before .before .before .before .before .before .before .before .before .before .before .before .before .before .before .before .before .before .before .put .ensures) (c .before .before .before .before .before .before .before .before .before .before .before .before .before .before .before .before .before .before .before .before .before .before .put-meter .ensures)) (adds-both (c .before .before .before .before .before .before .before .before .before .before .before .before .before .before .before .before .before .before .put2 .ensures) (c .before .before .before .before .before .before .before .before .before .before .before .before .before .before .put-tempo .ensures))) (adds-both (c .before .before .before .before .before .before .before .before .before .before .put3 .ensures) (c .before .before .before .before .before .before .put-signature .ensures))) (c .before .before .put4 .ensures))
+returns c =
+    let at-put-signature = c .before .before .before .before .before .before in
+    let at-put3 = at-put-signature .before .before .before .before in
+    let at-put-tempo = at-put3 .before .before .before .before in
+    let at-put2 = at-put-tempo .before .before .before .before in
+    let at-put-meter = at-put2 .before .before .before .before in
+    let at-put = at-put-meter .before .before .before .before in
+    (adds-both (adds-both (adds-both (adds-both (at-put .put .ensures) (at-put-meter .put-meter .ensures)) (adds-both (at-put2 .put2 .ensures) (at-put-tempo .put-tempo .ensures))) (adds-both (at-put3 .put3 .ensures) (at-put-signature .put-signature .ensures))) (c .before .before .put4 .ensures))
 
 pub put-bar-marks-spec : {M : Type 1} → statement M
 put-bar-marks-spec =

@@ -9,7 +9,9 @@ use Rattle.bar_lines.proofs.put_fifths.Tie as tie
 
 returns : tie.Need-returns
 unfolding fifthsText
-returns c = rw (lt-ltb _ _ (c .before .before .before .before .before .before .before .before .if1 .taken)) (adds-both (c .before .before .before .before .before .before .put .ensures) (c .before .before .put-decimal .ensures))
+returns c =
+    let at-put = c .before .before .before .before .before .before in
+    rw (lt-ltb _ _ (at-put .before .before .if1 .taken)) (adds-both (at-put .put .ensures) (c .before .before .put-decimal .ensures))
 
 returns-2 : tie.Need-returns-2
 unfolding fifthsText

@@ -8,7 +8,10 @@ use Rattle.bar_lines.proofs.put_meter.Tie as tie
 
 returns : tie.Need-returns
 unfolding meterText
-returns c = rw (c .before .before .before .before .before .before .before .before .before .before .before .before .if1 .taken) (adds-both (c .before .before .before .before .before .before .before .before .before .before .put-decimal .ensures) (adds-both (c .before .before .before .before .before .before .put .ensures) (c .before .before .put-decimal2 .ensures)))
+returns c =
+    let at-put = c .before .before .before .before .before .before in
+    let at-put-decimal = at-put .before .before .before .before in
+    rw (at-put-decimal .before .before .if1 .taken) (adds-both (at-put-decimal .put-decimal .ensures) (adds-both (at-put .put .ensures) (c .before .before .put-decimal2 .ensures)))
 
 returns-2 : tie.Need-returns-2
 unfolding meterText

@@ -6,7 +6,12 @@ use Rattle.bar_lines.proofs.put_part.Statement.{statement}
 use Rattle.bar_lines.proofs.put_part.Tie as tie
 
 returns : tie.Need-returns
-returns c = adds-most (omega arith) (adds-both (adds-both (adds-both (c .before .before .before .before .before .before .before .before .before .before .before .before .before .before .before .before .before .before .before .put-text .ensures) (c .before .before .before .before .before .before .before .before .before .before .before .before .before .before .before .put-decimal .ensures)) (adds-both (c .before .before .before .before .before .before .before .before .before .before .put-text2 .ensures) (c .before .before .before .before .before .before .put-decimal2 .ensures))) (c .before .before .put .ensures))
+returns c =
+    let at-put-decimal2 = c .before .before .before .before .before .before in
+    let at-put-text2 = at-put-decimal2 .before .before .before .before in
+    let at-put-decimal = at-put-text2 .before .before .before .before .before in
+    let at-put-text = at-put-decimal .before .before .before .before in
+    adds-most (omega arith) (adds-both (adds-both (adds-both (at-put-text .put-text .ensures) (at-put-decimal .put-decimal .ensures)) (adds-both (at-put-text2 .put-text2 .ensures) (at-put-decimal2 .put-decimal2 .ensures))) (c .before .before .put .ensures))
 
 pub put-part-spec : {M : Type 1} → statement M
 put-part-spec =

@@ -6,7 +6,10 @@ use Rattle.bar_lines.proofs.put_refused.Statement.{statement}
 use Rattle.bar_lines.proofs.put_refused.Tie as tie
 
 returns : tie.Need-returns
-returns c = adds-most (omega arith) (adds-both (c .before .before .before .before .before .before .before .before .before .before .put-text .ensures) (adds-both (c .before .before .before .before .before .before .put-decimal .ensures) (c .before .before .put .ensures)))
+returns c =
+    let at-put-decimal = c .before .before .before .before .before .before in
+    let at-put-text = at-put-decimal .before .before .before .before in
+    adds-most (omega arith) (adds-both (at-put-text .put-text .ensures) (adds-both (at-put-decimal .put-decimal .ensures) (c .before .before .put .ensures)))
 
 pub put-refused-spec : {M : Type 1} → statement M
 put-refused-spec =

@@ -13,11 +13,17 @@ returns c = rw (eq-eqb _ _ (c .before .before .before .before .if1 .taken)) (add
 
 returns-2 : tie.Need-returns-2
 unfolding keyText
-returns-2 c = rw (ne-eqb _ _ (c .before .before .before .before .before .before .before .before .before .if1 .left), c .before .before .before .before .if2 .taken) (adds-both (c .before .before .before .before .before .before .before .put-fifths .ensures) (c .before .before .put2 .ensures))
+returns-2 c =
+    let at-if2 = c .before .before .before .before in
+    let at-if1 = at-if2 .before .before .before .before .before in
+    rw (ne-eqb _ _ (at-if1 .if1 .left), at-if2 .if2 .taken) (adds-both (at-if2 .before .before .before .put-fifths .ensures) (c .before .before .put2 .ensures))
 
 returns-3 : tie.Need-returns-3
 unfolding keyText
-returns-3 c = rw (ne-eqb _ _ (c .before .before .before .before .before .before .before .before .before .if1 .left), c .before .before .before .before .if2 .left) (adds-both (c .before .before .before .before .before .before .before .put-fifths .ensures) (c .before .before .put3 .ensures))
+returns-3 c =
+    let at-if2 = c .before .before .before .before in
+    let at-if1 = at-if2 .before .before .before .before .before in
+    rw (ne-eqb _ _ (at-if1 .if1 .left), at-if2 .if2 .left) (adds-both (at-if2 .before .before .before .put-fifths .ensures) (c .before .before .put3 .ensures))
 
 pub put-signature-spec : {M : Type 1} → statement M
 put-signature-spec =

@@ -9,7 +9,9 @@ use Rattle.item_lines.proofs.put_bit.Tie as tie
 
 returns : tie.Need-returns
 unfolding bitKey
-returns c = (c .before .before .put-key .ensures .0, λ t ks h. rw (eq-eqb _ _ (c .before .before .before .before .if1 .taken)) (c .before .before .put-key .ensures .1 t ks h))
+returns c =
+    let at-put-key = c .before .before in
+    (at-put-key .put-key .ensures .0, λ t ks h. rw (eq-eqb _ _ (at-put-key .before .before .if1 .taken)) (at-put-key .put-key .ensures .1 t ks h))
 
 returns-2 : tie.Need-returns-2
 unfolding bitKey

@@ -6,7 +6,11 @@ use Rattle.item_lines.proofs.put_item.Statement.{statement}
 use Rattle.item_lines.proofs.put_item.Tie as tie
 
 returns : tie.Need-returns
-returns c = adds-most (omega arith) (adds-both (adds-both (adds-both (c .before .before .before .before .before .before .before .before .before .before .before .before .before .before .put-value .ensures) (c .before .before .before .before .before .before .before .before .before .before .put-ties .ensures)) (c .before .before .before .before .before .before .put-sound .ensures)) (c .before .before .put-item-end .ensures))
+returns c =
+    let at-put-sound = c .before .before .before .before .before .before in
+    let at-put-ties = at-put-sound .before .before .before .before in
+    let at-put-value = at-put-ties .before .before .before .before in
+    adds-most (omega arith) (adds-both (adds-both (adds-both (at-put-value .put-value .ensures) (at-put-ties .put-ties .ensures)) (at-put-sound .put-sound .ensures)) (c .before .before .put-item-end .ensures))
 
 pub put-item-spec : {M : Type 1} → statement M
 put-item-spec =

@@ -24,12 +24,15 @@ unfolding wordKeys
 loop-holds c = (omega arith, omega arith, omega arith, λ t ks h. rw append-nil h)
 
 loop-again : tie.Need-loop-again Inv-loop μ-loop
-loop-again c = let l = c .before .before .before .before .before .loop in
-    let a = c .before .before .before .before .before .before .before .args in (
+loop-again c =
+    let at-put-bit = c .before .before in
+    let at-start = at-put-bit .before .before .before .before .before in
+    let l = at-put-bit .before .before .before .loop in
+    let a = at-start .args in (
       omega arith,
-      c .before .before .put-bit .kept .0 ∙ l .inv .1,
-      omega (arith, c .before .before .put-bit .ensures .0),
-      λ t ks h. keys-more ks (l .k) (a .word) (a .base) (c .before .before .put-bit .ensures .1 t (ks ++ wordKeys (l .k) (a .word) (a .base)) (l .inv .3 t ks h)),
+      at-put-bit .put-bit .kept .0 ∙ l .inv .1,
+      omega (arith, at-put-bit .put-bit .ensures .0),
+      λ t ks h. keys-more ks (l .k) (a .word) (a .base) (at-put-bit .put-bit .ensures .1 t (ks ++ wordKeys (l .k) (a .word) (a .base)) (l .inv .3 t ks h)),
     )
 
 returns : tie.Need-returns Inv-loop μ-loop

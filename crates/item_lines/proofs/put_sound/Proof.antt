@@ -16,10 +16,14 @@ returns c = rw (eq-eqb _ _ (c .before .before .before .before .before .if1 .take
 
 returns-2 : tie.Need-returns-2
 unfolding soundText
-returns-2 c = let a = c .before .before .before .before .before .before .before .before .before .before .args in
-    rw (ne-eqb _ _ (c .before .before .before .before .before .before .before .before .if1 .left))
-    (adds-keys (omega (arith, c .before .before .put-keys2 .ensures .0, c .before .before .before .before .before .before .put-keys .ensures .0))
-    (c .before .before .put-keys2 .ensures .1 _ _ (c .before .before .before .before .before .before .put-keys .ensures .1 (take (a .at) (a .out .now)) [] (no-keys (a .at) (a .out .now)))))
+returns-2 c =
+    let at-put-keys2 = c .before .before in
+    let at-put-keys = at-put-keys2 .before .before .before .before in
+    let at-start = at-put-keys .before .before .before .before in
+    let a = at-start .args in
+    rw (ne-eqb _ _ (at-put-keys .before .before .if1 .left))
+    (adds-keys (omega (arith, at-put-keys2 .put-keys2 .ensures .0, at-put-keys .put-keys .ensures .0))
+    (at-put-keys2 .put-keys2 .ensures .1 _ _ (at-put-keys .put-keys .ensures .1 (take (a .at) (a .out .now)) [] (no-keys (a .at) (a .out .now)))))
 
 pub put-sound-spec : {M : Type 1} → statement M
 put-sound-spec =

@@ -7,7 +7,11 @@ use Rattle.item_lines.proofs.put_ties.Tie as tie
 
 returns : tie.Need-returns
 unfolding tiesText
-returns c = (adds-both (adds-both (adds-both (c .before .before .before .before .before .before .before .before .before .before .before .before .before .before .put .ensures) (c .before .before .before .before .before .before .before .before .before .before .put-letter .ensures)) (c .before .before .before .before .before .before .put-letter2 .ensures)) (c .before .before .put2 .ensures))
+returns c =
+    let at-put-letter2 = c .before .before .before .before .before .before in
+    let at-put-letter = at-put-letter2 .before .before .before .before in
+    let at-put = at-put-letter .before .before .before .before in
+    (adds-both (adds-both (adds-both (at-put .put .ensures) (at-put-letter .put-letter .ensures)) (at-put-letter2 .put-letter2 .ensures)) (c .before .before .put2 .ensures))
 
 pub put-ties-spec : {M : Type 1} → statement M
 put-ties-spec =

@@ -7,7 +7,10 @@ use Rattle.item_lines.proofs.put_value.Tie as tie
 
 returns : tie.Need-returns
 unfolding valueText
-returns c = (adds-both (adds-both (c .before .before .before .before .before .before .before .before .before .before .put-decimal .ensures) (c .before .before .before .before .before .before .put-next .ensures)) (c .before .before .put-next2 .ensures))
+returns c =
+    let at-put-next = c .before .before .before .before .before .before in
+    let at-put-decimal = at-put-next .before .before .before .before in
+    (adds-both (adds-both (at-put-decimal .put-decimal .ensures) (at-put-next .put-next .ensures)) (c .before .before .put-next2 .ensures))
 
 pub put-value-spec : {M : Type 1} → statement M
 put-value-spec =

@@ -14,12 +14,15 @@ put-text-requires c κs = let k : c .before .before .decimal .result ≤ 20 = mo
     omega (arith, c .before .before .decimal .ensures .0 .1)
 
 returns : tie.Need-returns
-returns c = let d = c .before .before .before .before .before .decimal in
-    let a = c .before .before .before .before .before .before .before .before .args in
+returns c =
+    let at-put-text = c .before .before in
+    let at-start = at-put-text .before .before .before .before .before .before in
+    let d = at-put-text .before .before .before .decimal in
+    let a = at-start .args in
     let k : d .result ≤ 20 = most-digits _ _ (d .ensures .1 .0) (omega arith) in
     record {
-      text = c .before .before .put-text .ensures .text ∙ ap (λ t. take (a .at) (a .out .now) ++ t) (d .ensures .1 .1 ∙ digits-decimal (a .n) (d .result) (omega arith) (d .ensures .1 .0));
-      grown = omega (arith, c .before .before .put-text .ensures .grown, d .ensures .0 .1);
+      text = at-put-text .put-text .ensures .text ∙ ap (λ t. take (a .at) (a .out .now) ++ t) (d .ensures .1 .1 ∙ digits-decimal (a .n) (d .result) (omega arith) (d .ensures .1 .0));
+      grown = omega (arith, at-put-text .put-text .ensures .grown, d .ensures .0 .1);
     }
 
 pub put-decimal-spec : {M : Type 1} → statement M

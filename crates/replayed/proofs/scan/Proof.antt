@@ -26,8 +26,9 @@ step-requires c κs = tt
 
 loop-again : tie.Need-loop-again Inv-loop μ-loop
 loop-again c =
-    let at = c .before .before .before .before .before .loop in
-    let a = c .before .before .before .before .before .before .before .args in
+    let at-loop = c .before .before .before .before .before in
+    let at = at-loop .loop in
+    let a = at-loop .before .before .args in
     let going : ended (at .found) ≡ false = sym (c .before .before .before .is-ended .ensures) ∙ c .before .before .if1 .left in
     rw (c .step .ensures) (sym (scan-more (a .label) (a .text .now) (at .found) (at .at) (omega arith) going) ∙ at .inv)
 
