@@ -6,12 +6,14 @@ use Rattle.line_text.specs.Text.{decimalIn, decimal}
 use Rattle.bar_lines.specs.Lines.{meterText, tempoText, fifthsText, keyText, barHead, barMarks, barLine, partLine, refusedLine}
 
 -- bar 1 0 1920 4/4 - -\n
-pub bar : barLine 480 1 0 (4 + 4 * 2 ^ 8 + 2 ^ 16) ≡ 98 ∷ 97 ∷ 114 ∷ 32 ∷ 49 ∷ 32 ∷ 48 ∷ 32 ∷ 49 ∷ 57 ∷ 50 ∷ 48 ∷ 32 ∷ 52 ∷ 47 ∷ 52 ∷ 32 ∷ 45 ∷ 32 ∷ 45 ∷ 10 ∷ []
+pub bar : barLine 480 1 0 (4 + 4 * 2 ^ 8 + 2 ^ 16)
+    ≡ 98 ∷ 97 ∷ 114 ∷ 32 ∷ 49 ∷ 32 ∷ 48 ∷ 32 ∷ 49 ∷ 57 ∷ 50 ∷ 48 ∷ 32 ∷ 52 ∷ 47 ∷ 52 ∷ 32 ∷ 45 ∷ 32 ∷ 45 ∷ 10 ∷ []
 unfolding decimalIn decimal meterText tempoText fifthsText keyText barHead barMarks
 bar = refl
 
 -- bar 12 1440 1440 - 150 -3m\n
-pub marked-bar : barLine 480 12 1440 (6 + 8 * 2 ^ 8 + 150 * 2 ^ 17 + 5 * 2 ^ 27 + 2 ^ 32) ≡ 98 ∷ 97 ∷ 114 ∷ 32 ∷ 49 ∷ 50 ∷ 32 ∷ 49 ∷ 52 ∷ 52 ∷ 48 ∷ 32 ∷ 49 ∷ 52 ∷ 52 ∷ 48 ∷ 32 ∷ 45 ∷ 32 ∷ 49 ∷ 53 ∷ 48 ∷ 32 ∷ 45 ∷ 51 ∷ 109 ∷ 10 ∷ []
+pub marked-bar : barLine 480 12 1440 (6 + 8 * 2 ^ 8 + 150 * 2 ^ 17 + 5 * 2 ^ 27 + 2 ^ 32)
+    ≡ 98 ∷ 97 ∷ 114 ∷ 32 ∷ 49 ∷ 50 ∷ 32 ∷ 49 ∷ 52 ∷ 52 ∷ 48 ∷ 32 ∷ 49 ∷ 52 ∷ 52 ∷ 48 ∷ 32 ∷ 45 ∷ 32 ∷ 49 ∷ 53 ∷ 48 ∷ 32 ∷ 45 ∷ 51 ∷ 109 ∷ 10 ∷ []
 unfolding decimalIn decimal meterText tempoText fifthsText keyText barHead barMarks
 marked-bar = refl
 

@@ -16,6 +16,7 @@ unfolding decimalIn decimal bitKey wordKeys behindCommas commas soundText letter
 rest = refl
 
 -- 3 2 0 es 0,63,64,127 u\n
-pub chord : itemLine 3 (2 + 32 + 64 + 128) (1 + 2 ^ 63) (1 + 2 ^ 63) ≡ 51 ∷ 32 ∷ 50 ∷ 32 ∷ 48 ∷ 32 ∷ 101 ∷ 115 ∷ 32 ∷ 48 ∷ 44 ∷ 54 ∷ 51 ∷ 44 ∷ 54 ∷ 52 ∷ 44 ∷ 49 ∷ 50 ∷ 55 ∷ 32 ∷ 117 ∷ 10 ∷ []
+pub chord : itemLine 3 (2 + 32 + 64 + 128) (1 + 2 ^ 63) (1 + 2 ^ 63)
+    ≡ 51 ∷ 32 ∷ 50 ∷ 32 ∷ 48 ∷ 32 ∷ 101 ∷ 115 ∷ 32 ∷ 48 ∷ 44 ∷ 54 ∷ 51 ∷ 44 ∷ 54 ∷ 52 ∷ 44 ∷ 49 ∷ 50 ∷ 55 ∷ 32 ∷ 117 ∷ 10 ∷ []
 unfolding decimalIn decimal bitKey wordKeys behindCommas commas soundText letter itemEnd valueText tiesText
 chord = refl

@@ -14,7 +14,12 @@ returns c =
     let at-put2 = at-put-tempo .before .before .before .before in
     let at-put-meter = at-put2 .before .before .before .before in
     let at-put = at-put-meter .before .before .before .before in
-    (adds-both (adds-both (adds-both (adds-both (at-put .put .ensures) (at-put-meter .put-meter .ensures)) (adds-both (at-put2 .put2 .ensures) (at-put-tempo .put-tempo .ensures))) (adds-both (at-put3 .put3 .ensures) (at-put-signature .put-signature .ensures))) (c .before .before .put4 .ensures))
+    (adds-both
+    (adds-both
+    (adds-both (adds-both (at-put .put .ensures) (at-put-meter .put-meter .ensures))
+    (adds-both (at-put2 .put2 .ensures) (at-put-tempo .put-tempo .ensures)))
+    (adds-both (at-put3 .put3 .ensures) (at-put-signature .put-signature .ensures)))
+    (c .before .before .put4 .ensures))
 
 pub put-bar-marks-spec : {M : Type 1} → statement M
 put-bar-marks-spec =

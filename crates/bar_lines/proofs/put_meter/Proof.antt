@@ -11,7 +11,8 @@ unfolding meterText
 returns c =
     let at-put = c .before .before .before .before .before .before in
     let at-put-decimal = at-put .before .before .before .before in
-    rw (at-put-decimal .before .before .if1 .taken) (adds-both (at-put-decimal .put-decimal .ensures) (adds-both (at-put .put .ensures) (c .before .before .put-decimal2 .ensures)))
+    rw (at-put-decimal .before .before .if1 .taken)
+    (adds-both (at-put-decimal .put-decimal .ensures) (adds-both (at-put .put .ensures) (c .before .before .put-decimal2 .ensures)))
 
 returns-2 : tie.Need-returns-2
 unfolding meterText

@@ -11,7 +11,11 @@ returns c =
     let at-put-text2 = at-put-decimal2 .before .before .before .before in
     let at-put-decimal = at-put-text2 .before .before .before .before .before in
     let at-put-text = at-put-decimal .before .before .before .before in
-    adds-most (omega arith) (adds-both (adds-both (adds-both (at-put-text .put-text .ensures) (at-put-decimal .put-decimal .ensures)) (adds-both (at-put-text2 .put-text2 .ensures) (at-put-decimal2 .put-decimal2 .ensures))) (c .before .before .put .ensures))
+    adds-most (omega arith)
+    (adds-both
+    (adds-both (adds-both (at-put-text .put-text .ensures) (at-put-decimal .put-decimal .ensures))
+    (adds-both (at-put-text2 .put-text2 .ensures) (at-put-decimal2 .put-decimal2 .ensures)))
+    (c .before .before .put .ensures))
 
 pub put-part-spec : {M : Type 1} → statement M
 put-part-spec =

@@ -10,7 +10,9 @@ returns c =
     let at-put-sound = c .before .before .before .before .before .before in
     let at-put-ties = at-put-sound .before .before .before .before in
     let at-put-value = at-put-ties .before .before .before .before in
-    adds-most (omega arith) (adds-both (adds-both (adds-both (at-put-value .put-value .ensures) (at-put-ties .put-ties .ensures)) (at-put-sound .put-sound .ensures)) (c .before .before .put-item-end .ensures))
+    adds-most (omega arith)
+    (adds-both (adds-both (adds-both (at-put-value .put-value .ensures) (at-put-ties .put-ties .ensures)) (at-put-sound .put-sound .ensures))
+    (c .before .before .put-item-end .ensures))
 
 pub put-item-spec : {M : Type 1} → statement M
 put-item-spec =

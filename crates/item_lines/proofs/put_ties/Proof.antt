@@ -11,7 +11,8 @@ returns c =
     let at-put-letter2 = c .before .before .before .before .before .before in
     let at-put-letter = at-put-letter2 .before .before .before .before in
     let at-put = at-put-letter .before .before .before .before in
-    (adds-both (adds-both (adds-both (at-put .put .ensures) (at-put-letter .put-letter .ensures)) (at-put-letter2 .put-letter2 .ensures)) (c .before .before .put2 .ensures))
+    (adds-both (adds-both (adds-both (at-put .put .ensures) (at-put-letter .put-letter .ensures)) (at-put-letter2 .put-letter2 .ensures))
+    (c .before .before .put2 .ensures))
 
 pub put-ties-spec : {M : Type 1} → statement M
 put-ties-spec =

@@ -17,8 +17,11 @@ push-span-requires : tie.Need-push-span-requires
 push-span-requires c κs =
     let at-larger = c .before .before .before .before in
     let at-start = at-larger .before .before .before .before in
-    let pre = at-start .pre in
-    (pre .0, omega (arith, mark (c .before .before .before)), rw (at-larger .before .smaller .ensures, at-larger .larger .ensures) (rw (pieces-length _ _ _ _) at (pre .2)))
+    let pre = at-start .pre in (
+      pre .0,
+      omega (arith, mark (c .before .before .before)),
+      rw (at-larger .before .smaller .ensures, at-larger .larger .ensures) (rw (pieces-length _ _ _ _) at (pre .2)),
+    )
 
 free-ends-requires : tie.Need-free-ends-requires
 free-ends-requires c κs =
@@ -36,7 +39,8 @@ returns c =
     let fits = push-span-requires (at-push-span .before) (at-push-span .push-span .lifetimes) .2 .heads-fit in
     let span = at-push-span .push-span .ensures in
     rw (← at-flag .before .before .smaller .ensures, ← at-flag .before .larger .ensures)
-    (span-pieces (chordOf (given .c)) (given .c .keys) _ _ (omega arith) refl fits (rw (at-flag .flag .ensures) at span) (c .before .before .free-ends .ensures))
+    (span-pieces (chordOf (given .c)) (given .c .keys) _ _ (omega arith) refl fits (rw (at-flag .flag .ensures) at span)
+    (c .before .before .free-ends .ensures))
 
 pub push-chord-spec : {M : Type 1} → statement M
 push-chord-spec =

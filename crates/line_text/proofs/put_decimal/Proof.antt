@@ -21,7 +21,9 @@ returns c =
     let a = at-start .args in
     let k : d .result ≤ 20 = most-digits _ _ (d .ensures .1 .0) (omega arith) in
     record {
-      text = at-put-text .put-text .ensures .text ∙ ap (λ t. take (a .at) (a .out .now) ++ t) (d .ensures .1 .1 ∙ digits-decimal (a .n) (d .result) (omega arith) (d .ensures .1 .0));
+      text =
+          at-put-text .put-text .ensures .text
+          ∙ ap (λ t. take (a .at) (a .out .now) ++ t) (d .ensures .1 .1 ∙ digits-decimal (a .n) (d .result) (omega arith) (d .ensures .1 .0));
       grown = omega (arith, at-put-text .put-text .ensures .grown, d .ensures .0 .1);
     }
 

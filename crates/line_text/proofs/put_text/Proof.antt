@@ -21,8 +21,11 @@ loop-holds c = (omega arith, refl, text-none (c .args .at) (c .args .out .now) (
 
 loop-again : tie.Need-loop-again Inv-loop μ-loop
 loop-again c = let l = c .before .before .loop in
-    let a = c .before .before .before .args in
-    (omega arith, simp length-set (l .inv .1), text-more (a .at) (l .i) (a .text .now) (l .out) (take (a .at) (a .out .now)) (c .before .loop-test .taken) (omega arith) (l .inv .2))
+    let a = c .before .before .before .args in (
+      omega arith,
+      simp length-set (l .inv .1),
+      text-more (a .at) (l .i) (a .text .now) (l .out) (take (a .at) (a .out .now)) (c .before .loop-test .taken) (omega arith) (l .inv .2),
+    )
 
 returns : tie.Need-returns Inv-loop μ-loop
 returns c = let l = c .before .loop in

@@ -6,7 +6,8 @@ use Rattle.piece_input.proofs.read_all.Statement.{statement}
 use Rattle.piece_input.proofs.read_all.Tie as tie
 
 abbrev Inv-loop : tie.InvT-loop
-Inv-loop sizes₀ deltas₀ words₀ reader₀ turns₀ sizes deltas words reader turns = (length sizes ≡ length sizes₀) × (length deltas ≡ length deltas₀) × (length words ≡ length words₀)
+Inv-loop sizes₀ deltas₀ words₀ reader₀ turns₀ sizes deltas words reader turns =
+    (length sizes ≡ length sizes₀) × (length deltas ≡ length deltas₀) × (length words ≡ length words₀)
 
 abbrev μ-loop : tie.MeasureT-loop
 μ-loop sizes₀ deltas₀ words₀ reader₀ turns₀ sizes deltas words reader turns = turns

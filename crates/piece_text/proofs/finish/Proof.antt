@@ -23,7 +23,12 @@ same-length-3 c = search needs
 
 returns : tie.Need-returns
 unfolding ended Answers
-returns c = λ a h. rw (sym (h .at), sym (c .before .before .before .before .before .before .before .before .before .before .before .has-three-lines .ensures) ∙ c .before .before .before .before .before .before .before .before .before .before .if1 .taken) (c .before .before .before .before .before .before .store-begun .ensures (a .numbers) (h .numbers))
+returns c =
+    λ a h. rw (
+      sym (h .at),
+      sym (c .before .before .before .before .before .before .before .before .before .before .before .has-three-lines .ensures)
+          ∙ c .before .before .before .before .before .before .before .before .before .before .if1 .taken,
+    ) (c .before .before .before .before .before .before .store-begun .ensures (a .numbers) (h .numbers))
 
 returns-2 : tie.Need-returns-2
 unfolding ended Answers

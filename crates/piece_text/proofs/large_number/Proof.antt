@@ -83,7 +83,8 @@ returns-4 c =
 returns-5 : tie.Need-returns-5
 returns-5 c =
     let t = c .before in
-    let other : c .before .before .before .before .before .before .before .before .before .before .before .before .args .deltas ≡ sum (drop 2 (sizes t)) → ⊥ = λ e. c .if5 .taken (e ∙ sym (summed t)) in (
+    let other : c .before .before .before .before .before .before .before .before .before .before .before .before .args .deltas ≡ sum (drop 2 (sizes t)) → ⊥ =
+    λ e. c .if5 .taken (e ∙ sym (summed t)) in (
       omega arith,
       λ ds ws kd kw.
           sym (number-one (piece (sizes t) ds ws) (disagrees (piece (sizes t) ds ws) (λ a. other-count kd _ (small t) other (a .deltas)))),
@@ -92,7 +93,8 @@ returns-5 c =
 returns-6 : tie.Need-returns-6
 returns-6 c =
     let t = c .before .before in
-    let other : c .before .before .before .before .before .before .before .before .before .before .before .before .before .args .words ≡ sum (drop 2 (sizes t)) → ⊥ = λ e. c .if6 .taken (e ∙ sym (summed t)) in (
+    let other : c .before .before .before .before .before .before .before .before .before .before .before .before .before .args .words ≡ sum (drop 2 (sizes t)) → ⊥ =
+    λ e. c .if6 .taken (e ∙ sym (summed t)) in (
       omega arith,
       λ ds ws kd kw.
           sym (number-one (piece (sizes t) ds ws) (disagrees (piece (sizes t) ds ws) (λ a. other-count kw _ (small t) other (a .words)))),

@@ -24,7 +24,9 @@ returns c = (
 )
 
 slice-aggregate-large-number : tie.Need-slice-aggregate-large-number
-slice-aggregate-large-number c = sym (length-take-le (c .before .before .before .before .before .before .before .args .counts .sizes) (c .before .before .before .before .before .before .before .args .sizes .now) (omega arith))
+slice-aggregate-large-number c =
+    sym (length-take-le (c .before .before .before .before .before .before .before .args .counts .sizes)
+    (c .before .before .before .before .before .before .before .args .sizes .now) (omega arith))
 
 large-number-requires : tie.Need-large-number-requires
 large-number-requires c κs = inl (omega (arith, c .before .if2 .taken))
@@ -35,12 +37,15 @@ returns-2 c = let a = c .before .before .before .before .before .before .before 
   λ x h. record {
     whole = λ z. absurd (omega (arith, z, c .large-number .ensures .0));
     number = λ _. c .large-number .ensures .1 (x .deltas) (x .words) (h .deltas .counted) (h .words .counted)
-        ∙ ap (λ ss. firstNumber (pieceRefusals (piece ss (x .deltas) (x .words)))) (sym (held-whole (x .sizes) _ (a .sizes .now) (h .sizes) (omega (arith, c .before .before .before .before .if1 .left)) (omega arith)));
+        ∙ ap (λ ss. firstNumber (pieceRefusals (piece ss (x .deltas) (x .words))))
+        (sym (held-whole (x .sizes) _ (a .sizes .now) (h .sizes) (omega (arith, c .before .before .before .before .if1 .left)) (omega arith)));
   },
 )
 
 slice-aggregate-large-number-2 : tie.Need-slice-aggregate-large-number-2
-slice-aggregate-large-number-2 c = sym (length-take-le (c .before .before .before .before .before .before .before .before .before .args .counts .sizes) (c .before .before .before .before .before .before .before .before .before .args .sizes .now) (omega arith))
+slice-aggregate-large-number-2 c =
+    sym (length-take-le (c .before .before .before .before .before .before .before .before .before .args .counts .sizes)
+    (c .before .before .before .before .before .before .before .before .before .args .sizes .now) (omega arith))
 
 large-number-requires-2 : tie.Need-large-number-requires-2
 large-number-requires-2 c κs = inr (omega (arith, c .before .if3 .taken))
@@ -51,7 +56,9 @@ returns-3 c = let a = c .before .before .before .before .before .before .before 
   λ x h. record {
     whole = λ z. absurd (omega (arith, z, c .large-number2 .ensures .0));
     number = λ _. c .large-number2 .ensures .1 (x .deltas) (x .words) (h .deltas .counted) (h .words .counted)
-        ∙ ap (λ ss. firstNumber (pieceRefusals (piece ss (x .deltas) (x .words)))) (sym (held-whole (x .sizes) _ (a .sizes .now) (h .sizes) (omega (arith, c .before .before .before .before .before .before .if1 .left)) (omega arith)));
+        ∙ ap (λ ss. firstNumber (pieceRefusals (piece ss (x .deltas) (x .words))))
+        (sym (held-whole (x .sizes) _ (a .sizes .now) (h .sizes) (omega (arith, c .before .before .before .before .before .before .if1 .left))
+        (omega arith)));
   },
 )
 

@@ -12,7 +12,8 @@ use Rattle.piece_text.proofs.read_bytes.Statement.{statement}
 use Rattle.piece_text.proofs.read_bytes.Tie as tie
 
 abbrev Inv-loop : tie.InvT-loop
-Inv-loop bytes sizes₀ deltas₀ words₀ state₀ i₀ sizes deltas words state i = (i ≤ length bytes) × (length sizes ≡ length sizes₀) × (length deltas ≡ length deltas₀) × (length words ≡ length words₀)
+Inv-loop bytes sizes₀ deltas₀ words₀ state₀ i₀ sizes deltas words state i =
+    (i ≤ length bytes) × (length sizes ≡ length sizes₀) × (length deltas ≡ length deltas₀) × (length words ≡ length words₀)
     × ((a : Reading) → ReadingHeld a state₀ sizes₀ deltas₀ words₀ → ReadingHeld (readOn a (take i bytes)) state sizes deltas words)
 
 abbrev μ-loop : tie.MeasureT-loop
@@ -41,7 +42,11 @@ loop-again c = let l = c .before .before .before .before .before .before .before
       k .1 .1 .0 ∙ l .inv .1,
       k .1 .1 .1 .0 ∙ l .inv .2,
       k .1 .1 .1 .1 .0 ∙ l .inv .3,
-      λ a h. rw (read-one a (c .before .before .before .before .before .before .before .before .before .before .before .before .before .before .before .before .before .args .bytes .now) (l .i) (c .before .before .before .before .before .before .before .before .before .before .before .loop-test .taken)) (c .before .before .before .before .before .before .step .ensures _ (l .inv .4 a h)),
+      λ a h. rw
+          (read-one a
+          (c .before .before .before .before .before .before .before .before .before .before .before .before .before .before .before .before .before .args .bytes .now)
+          (l .i) (c .before .before .before .before .before .before .before .before .before .before .before .loop-test .taken))
+          (c .before .before .before .before .before .before .step .ensures _ (l .inv .4 a h)),
     )
 
 same-length : tie.Need-same-length Inv-loop μ-loop
@@ -54,7 +59,9 @@ same-length-3 : tie.Need-same-length-3 Inv-loop μ-loop
 same-length-3 c = omega arith
 
 returns : tie.Need-returns Inv-loop μ-loop
-returns c = λ a h. rw (take-all (c .before .loop .i) (c .before .before .before .before .before .before .args .bytes .now) (omega arith)) at (c .before .loop .inv .4 a h)
+returns c =
+    λ a h. rw (take-all (c .before .loop .i) (c .before .before .before .before .before .before .args .bytes .now) (omega arith))
+    at (c .before .loop .inv .4 a h)
 
 pub read-bytes-spec : {M : Type 1} → statement M
 read-bytes-spec =

@@ -22,7 +22,12 @@ same-length-3 : tie.Need-same-length-3
 same-length-3 c = search needs
 
 returns : tie.Need-returns
-returns c = c .before .before .before .before .before .before .finish .ensures _ (c .before .before .before .before .before .before .before .before .before .before .before .before .before .before .before .before .read-bytes .ensures _ (c .before .before .before .before .before .before .before .before .before .before .before .before .before .before .before .before .before .before .before .before .start .ensures _ _ _))
+returns c =
+    c .before .before .before .before .before .before .finish .ensures _
+    (c .before .before .before .before .before .before .before .before .before .before .before .before .before .before .before .before .read-bytes .ensures
+    _
+    (c .before .before .before .before .before .before .before .before .before .before .before .before .before .before .before .before .before .before .before .before .start .ensures
+    _ _ _))
 
 pub read-text-spec : {M : Type 1} → statement M
 read-text-spec =

@@ -23,10 +23,19 @@ same-length-3 : tie.Need-same-length-3
 same-length-3 c = search needs
 
 returns : tie.Need-returns
-returns c = λ a h. rw (sym (h .at), sym (c .before .before .before .before .before .before .before .before .before .before .before .ends-number .ensures) ∙ c .before .before .before .before .before .before .before .before .before .before .if1 .taken) (record { at = c .before .before .before .before .before .before .before .before .before .before .before .before .after .ensures; numbers = c .before .before .before .before .before .before .store-begun .ensures (a .numbers) (h .numbers) })
+returns c =
+    λ a h. rw (
+      sym (h .at),
+      sym (c .before .before .before .before .before .before .before .before .before .before .before .ends-number .ensures)
+          ∙ c .before .before .before .before .before .before .before .before .before .before .if1 .taken,
+    ) (record {
+      at = c .before .before .before .before .before .before .before .before .before .before .before .before .after .ensures;
+      numbers = c .before .before .before .before .before .before .store-begun .ensures (a .numbers) (h .numbers);
+    })
 
 returns-2 : tie.Need-returns-2
-returns-2 c = λ a h. rw (sym (h .at), sym (c .before .ends-number .ensures) ∙ c .if1 .left) (record { at = c .before .before .after .ensures; numbers = h .numbers })
+returns-2 c =
+    λ a h. rw (sym (h .at), sym (c .before .ends-number .ensures) ∙ c .if1 .left) (record { at = c .before .before .after .ensures; numbers = h .numbers })
 
 pub step-spec : {M : Type 1} → statement M
 step-spec =

@@ -16,7 +16,9 @@ same-length-3 : tie.Need-same-length-3
 same-length-3 c = search needs
 
 returns : tie.Need-returns
-returns c = λ x h. rw (c .before .before .before .before .before .before .before .before .before .before .if1 .taken) (c .before .before .before .before .before .before .store-number .ensures x h)
+returns c =
+    λ x h. rw (c .before .before .before .before .before .before .before .before .before .before .if1 .taken)
+    (c .before .before .before .before .before .before .store-number .ensures x h)
 
 returns-2 : tie.Need-returns-2
 returns-2 c = λ x h. rw (c .if1 .left) h

@@ -13,7 +13,9 @@ same-length c = search needs
 
 returns : tie.Need-returns
 unfolding putNumber
-returns c = λ x h. rw (eq-eqb _ _ (c .before .before .before .before .if1 .taken)) (record { sizes = c .before .before .store .ensures (x .sizes) (h .sizes); deltas = h .deltas; words = h .words })
+returns c =
+    λ x h. rw (eq-eqb _ _ (c .before .before .before .before .if1 .taken))
+    (record { sizes = c .before .before .store .ensures (x .sizes) (h .sizes); deltas = h .deltas; words = h .words })
 
 store-requires-2 : tie.Need-store-requires-2
 store-requires-2 c κs = search needs
@@ -23,7 +25,9 @@ same-length-2 c = search needs
 
 returns-2 : tie.Need-returns-2
 unfolding putNumber
-returns-2 c = λ x h. rw (ne-eqb _ _ (c .before .before .before .before .before .if1 .left), eq-eqb _ _ (c .before .before .before .before .if2 .taken)) (record { sizes = h .sizes; deltas = c .before .before .store2 .ensures (x .deltas) (h .deltas); words = h .words })
+returns-2 c =
+    λ x h. rw (ne-eqb _ _ (c .before .before .before .before .before .if1 .left), eq-eqb _ _ (c .before .before .before .before .if2 .taken))
+    (record { sizes = h .sizes; deltas = c .before .before .store2 .ensures (x .deltas) (h .deltas); words = h .words })
 
 store-requires-3 : tie.Need-store-requires-3
 store-requires-3 c κs = search needs
@@ -33,7 +37,12 @@ same-length-3 c = search needs
 
 returns-3 : tie.Need-returns-3
 unfolding putNumber
-returns-3 c = λ x h. rw (ne-eqb _ _ (c .before .before .before .before .before .before .if1 .left), ne-eqb _ _ (c .before .before .before .before .before .if2 .left), eq-eqb _ _ (c .before .before .before .before .if3 .taken)) (record { sizes = h .sizes; deltas = h .deltas; words = c .before .before .store3 .ensures (x .words) (h .words) })
+returns-3 c =
+    λ x h. rw (
+      ne-eqb _ _ (c .before .before .before .before .before .before .if1 .left),
+      ne-eqb _ _ (c .before .before .before .before .before .if2 .left),
+      eq-eqb _ _ (c .before .before .before .before .if3 .taken),
+    ) (record { sizes = h .sizes; deltas = h .deltas; words = c .before .before .store3 .ensures (x .words) (h .words) })
 
 returns-4 : tie.Need-returns-4
 unfolding putNumber

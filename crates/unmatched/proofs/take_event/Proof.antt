@@ -40,7 +40,8 @@ returns c x p =
     let at-pair-event-arg = at-pair .before .before .before in
     let at-start = at-pair-event-arg .before .before .before .before in
     let pre = at-start .pre in
-    turned p (record { tick = pre .soon; number = pre .small }) Other (rw (c .enum-told .given .1) at (at-pair .pair-event .ensures x (p .queues))) (omega arith)
+    turned p (record { tick = pre .soon; number = pre .small }) Other (rw (c .enum-told .given .1) at (at-pair .pair-event .ensures x (p .queues)))
+    (omega arith)
     (found-none _ _ _)
 
 returns-2 : tie.Need-returns-2
@@ -49,7 +50,8 @@ returns-2 c x p =
     let at-pair-event-arg = at-pair .before .before .before in
     let at-start = at-pair-event-arg .before .before .before .before in
     let pre = at-start .pre in
-    turned p (record { tick = pre .soon; number = pre .small }) Started (rw (c .enum-told2 .given .1) at (at-pair .pair-event .ensures x (p .queues))) (omega arith)
+    turned p (record { tick = pre .soon; number = pre .small }) Started (rw (c .enum-told2 .given .1) at (at-pair .pair-event .ensures x (p .queues)))
+    (omega arith)
     (found-none _ _ _)
 
 returns-3 : tie.Need-returns-3

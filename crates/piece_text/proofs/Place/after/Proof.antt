@@ -33,21 +33,38 @@ end-number-requires c κs = search needs
 
 returns-3 : tie.Need-returns-3
 unfolding placeAfter
-returns-3 c = rw (le-ltb _ _ (c .before .before .before .before .before .if1 .left), sym (c .before .before .before .before .is-digit .ensures) ∙ c .before .before .before .if2 .left, sym (c .before .before .is-blank .ensures) ∙ c .before .if3 .taken) (c .end-number .ensures)
+returns-3 c =
+    rw (
+      le-ltb _ _ (c .before .before .before .before .before .if1 .left),
+      sym (c .before .before .before .before .is-digit .ensures) ∙ c .before .before .before .if2 .left,
+      sym (c .before .before .is-blank .ensures) ∙ c .before .if3 .taken,
+    ) (c .end-number .ensures)
 
 end-line-requires : tie.Need-end-line-requires
 end-line-requires c κs = search needs
 
 returns-4 : tie.Need-returns-4
 unfolding placeAfter
-returns-4 c = rw (le-ltb _ _ (c .before .before .before .before .before .before .if1 .left), sym (c .before .before .before .before .before .is-digit .ensures) ∙ c .before .before .before .before .if2 .left, sym (c .before .before .before .is-blank .ensures) ∙ c .before .before .if3 .left, eq-eqb _ _ (c .before .if4 .taken)) (c .end-line .ensures)
+returns-4 c =
+    rw (
+      le-ltb _ _ (c .before .before .before .before .before .before .if1 .left),
+      sym (c .before .before .before .before .before .is-digit .ensures) ∙ c .before .before .before .before .if2 .left,
+      sym (c .before .before .before .is-blank .ensures) ∙ c .before .before .if3 .left,
+      eq-eqb _ _ (c .before .if4 .taken),
+    ) (c .end-line .ensures)
 
 spoil-requires-2 : tie.Need-spoil-requires-2
 spoil-requires-2 c κs = search needs
 
 returns-5 : tie.Need-returns-5
 unfolding placeAfter
-returns-5 c = rw (le-ltb _ _ (c .before .before .before .before .before .before .if1 .left), sym (c .before .before .before .before .before .is-digit .ensures) ∙ c .before .before .before .before .if2 .left, sym (c .before .before .before .is-blank .ensures) ∙ c .before .before .if3 .left, ne-eqb _ _ (c .before .if4 .left)) (c .spoil2 .ensures)
+returns-5 c =
+    rw (
+      le-ltb _ _ (c .before .before .before .before .before .before .if1 .left),
+      sym (c .before .before .before .before .before .is-digit .ensures) ∙ c .before .before .before .before .if2 .left,
+      sym (c .before .before .before .is-blank .ensures) ∙ c .before .before .if3 .left,
+      ne-eqb _ _ (c .before .if4 .left),
+    ) (c .spoil2 .ensures)
 
 pub after-spec : {M : Type 1} → statement M
 after-spec =
