@@ -15,31 +15,35 @@ mark c = rw (c .flag .ensures) (flag-small (c .before .before .before .before .b
 
 push-span-requires : tie.Need-push-span-requires
 push-span-requires c κs =
-    let at-larger = c .before .before .before .before in
-    let at-start = at-larger .before .before .before .before in
-    let pre = at-start .pre in (
+    let pre = c .before .before .before .before .before .before .before .before .pre in (
       pre .0,
       omega (arith, mark (c .before .before .before)),
-      rw (at-larger .before .smaller .ensures, at-larger .larger .ensures) (rw (pieces-length _ _ _ _) at (pre .2)),
+      rw (c .before .before .before .before .before .smaller .ensures, c .before .before .before .before .larger .ensures)
+          (rw (pieces-length _ _ _ _) at (pre .2)),
     )
 
 free-ends-requires : tie.Need-free-ends-requires
 free-ends-requires c κs =
-    let at-keys = c .before .before .before .before .before .before in
-    let at-push-span = at-keys .before .before .before in
-    span-tied _ (omega arith) (push-span-requires (at-push-span .before) (at-push-span .push-span .lifetimes) .2 .heads-fit) (at-push-span .push-span .ensures)
+    span-tied _ (omega arith)
+    (push-span-requires (c .before .before .before .before .before .before .before .before .before .before)
+    (c .before .before .before .before .before .before .before .before .before .push-span .lifetimes) .2 .heads-fit)
+    (c .before .before .before .before .before .before .before .before .before .push-span .ensures)
 
 returns : tie.Need-returns
 returns c =
-    let at-struct-known = c .before .before .before .before .before .before in
-    let at-push-span = at-struct-known .before .before .before .before .before .before in
-    let at-flag = at-push-span .before .before .before .before in
-    let at-start = at-flag .before .before .before .before .before in
-    let given = at-start .args in
-    let fits = push-span-requires (at-push-span .before) (at-push-span .push-span .lifetimes) .2 .heads-fit in
-    let span = at-push-span .push-span .ensures in
-    rw (← at-flag .before .before .smaller .ensures, ← at-flag .before .larger .ensures)
-    (span-pieces (chordOf (given .c)) (given .c .keys) _ _ (omega arith) refl fits (rw (at-flag .flag .ensures) at span)
+    let given =
+    c .before .before .before .before .before .before .before .before .before .before .before .before .before .before .before .before .before .before .before .before .before .args in
+    let fits = push-span-requires (c .before .before .before .before .before .before .before .before .before .before .before .before .before)
+    (c .before .before .before .before .before .before .before .before .before .before .before .before .push-span .lifetimes) .2 .heads-fit in
+    let span = c .before .before .before .before .before .before .before .before .before .before .before .before .push-span .ensures in
+    rw (
+      ← c .before .before .before .before .before .before .before .before .before .before .before .before .before .before .before .before .before .before .smaller .ensures,
+      ← c .before .before .before .before .before .before .before .before .before .before .before .before .before .before .before .before .before .larger .ensures,
+    )
+    (span-pieces (chordOf (given .c)) (given .c .keys) _ _ (omega arith) refl fits
+    (rw
+    (c .before .before .before .before .before .before .before .before .before .before .before .before .before .before .before .before .flag .ensures)
+    at span)
     (c .before .before .free-ends .ensures))
 
 pub push-chord-spec : {M : Type 1} → statement M

@@ -24,11 +24,13 @@ same-length-3 c = search needs
 returns : tie.Need-returns
 unfolding ended Answers
 returns c =
+    let at-store-begun = c .before .before .before .before .before .before in
+    let at-if1 = at-store-begun .before .before .before .before in
     λ a h. rw (
       sym (h .at),
-      sym (c .before .before .before .before .before .before .before .before .before .before .before .has-three-lines .ensures)
-          ∙ c .before .before .before .before .before .before .before .before .before .before .if1 .taken,
-    ) (c .before .before .before .before .before .before .store-begun .ensures (a .numbers) (h .numbers))
+      sym (at-if1 .before .has-three-lines .ensures)
+          ∙ at-if1 .if1 .taken,
+    ) (at-store-begun .store-begun .ensures (a .numbers) (h .numbers))
 
 returns-2 : tie.Need-returns-2
 unfolding ended Answers

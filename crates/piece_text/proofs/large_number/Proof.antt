@@ -83,7 +83,9 @@ returns-4 c =
 returns-5 : tie.Need-returns-5
 returns-5 c =
     let t = c .before in
-    let other : c .before .before .before .before .before .before .before .before .before .before .before .before .args .deltas ≡ sum (drop 2 (sizes t)) → ⊥ =
+    let at-size = t .before .before .before .before .before in
+    let at-start = at-size .before .before .before .before .before .before in
+    let other : at-start .args .deltas ≡ sum (drop 2 (sizes t)) → ⊥ =
     λ e. c .if5 .taken (e ∙ sym (summed t)) in (
       omega arith,
       λ ds ws kd kw.
@@ -93,7 +95,9 @@ returns-5 c =
 returns-6 : tie.Need-returns-6
 returns-6 c =
     let t = c .before .before in
-    let other : c .before .before .before .before .before .before .before .before .before .before .before .before .before .args .words ≡ sum (drop 2 (sizes t)) → ⊥ =
+    let at-size = t .before .before .before .before .before in
+    let at-start = at-size .before .before .before .before .before .before in
+    let other : at-start .args .words ≡ sum (drop 2 (sizes t)) → ⊥ =
     λ e. c .if6 .taken (e ∙ sym (summed t)) in (
       omega arith,
       λ ds ws kd kw.

@@ -36,17 +36,21 @@ loop-less : tie.Need-loop-less Inv-loop μ-loop
 loop-less c = omega arith
 
 loop-again : tie.Need-loop-again Inv-loop μ-loop
-loop-again c = let l = c .before .before .before .before .before .before .before .before .before .before .before .before .loop in
-    let k = c .before .before .before .before .before .before .step .kept in (
+loop-again c =
+    let at-step = c .before .before .before .before .before .before in
+    let at-loop-test = at-step .before .before .before .before .before in
+    let at-start = at-loop-test .before .before .before .before .before .before in
+    let l = at-loop-test .before .loop in
+    let k = at-step .step .kept in (
       omega arith,
       k .1 .1 .0 ∙ l .inv .1,
       k .1 .1 .1 .0 ∙ l .inv .2,
       k .1 .1 .1 .1 .0 ∙ l .inv .3,
       λ a h. rw
           (read-one a
-          (c .before .before .before .before .before .before .before .before .before .before .before .before .before .before .before .before .before .args .bytes .now)
-          (l .i) (c .before .before .before .before .before .before .before .before .before .before .before .loop-test .taken))
-          (c .before .before .before .before .before .before .step .ensures _ (l .inv .4 a h)),
+          (at-start .args .bytes .now)
+          (l .i) (at-loop-test .loop-test .taken))
+          (at-step .step .ensures _ (l .inv .4 a h)),
     )
 
 same-length : tie.Need-same-length Inv-loop μ-loop

@@ -23,10 +23,14 @@ same-length-3 c = search needs
 
 returns : tie.Need-returns
 returns c =
-    c .before .before .before .before .before .before .finish .ensures _
-    (c .before .before .before .before .before .before .before .before .before .before .before .before .before .before .before .before .read-bytes .ensures
+    let at-finish = c .before .before .before .before .before .before in
+    let at-words = at-finish .before .before .before .before .before in
+    let at-read-bytes = at-words .before .before .before .before .before in
+    let at-start = at-read-bytes .before .before .before .before in
+    at-finish .finish .ensures _
+    (at-read-bytes .read-bytes .ensures
     _
-    (c .before .before .before .before .before .before .before .before .before .before .before .before .before .before .before .before .before .before .before .before .start .ensures
+    (at-start .start .ensures
     _ _ _))
 
 pub read-text-spec : {M : Type 1} → statement M

@@ -24,13 +24,15 @@ same-length-3 c = search needs
 
 returns : tie.Need-returns
 returns c =
+    let at-store-begun = c .before .before .before .before .before .before in
+    let at-if1 = at-store-begun .before .before .before .before in
     λ a h. rw (
       sym (h .at),
-      sym (c .before .before .before .before .before .before .before .before .before .before .before .ends-number .ensures)
-          ∙ c .before .before .before .before .before .before .before .before .before .before .if1 .taken,
+      sym (at-if1 .before .ends-number .ensures)
+          ∙ at-if1 .if1 .taken,
     ) (record {
-      at = c .before .before .before .before .before .before .before .before .before .before .before .before .after .ensures;
-      numbers = c .before .before .before .before .before .before .store-begun .ensures (a .numbers) (h .numbers);
+      at = at-if1 .before .before .after .ensures;
+      numbers = at-store-begun .store-begun .ensures (a .numbers) (h .numbers);
     })
 
 returns-2 : tie.Need-returns-2

@@ -17,8 +17,10 @@ same-length-3 c = search needs
 
 returns : tie.Need-returns
 returns c =
-    λ x h. rw (c .before .before .before .before .before .before .before .before .before .before .if1 .taken)
-    (c .before .before .before .before .before .before .store-number .ensures x h)
+    let at-store-number = c .before .before .before .before .before .before in
+    let at-if1 = at-store-number .before .before .before .before in
+    λ x h. rw (at-if1 .if1 .taken)
+    (at-store-number .store-number .ensures x h)
 
 returns-2 : tie.Need-returns-2
 returns-2 c = λ x h. rw (c .if1 .left) h

@@ -7,17 +7,15 @@ use Rattle.proofread_notes.proofs.check_chord.Tie as tie
 
 returns : tie.Need-returns
 returns c =
-    let at-scan = c .before .before .before .before .before in
-    let at-start = at-scan .before .before .before .before .before in
-    checks-yes (at-start .pre .0) (at-scan .scan .ensures) (at-scan .before .before .skip .ensures) (omega arith) (omega arith) (omega arith)
-    (omega arith) (c .before .before .keys-meant .ensures) (c .before .if1 .taken) (c .end-meant .ensures)
+    checks-yes (c .before .before .before .before .before .before .before .before .before .before .pre .0)
+    (c .before .before .before .before .before .scan .ensures) (c .before .before .before .before .before .before .before .skip .ensures) (omega arith)
+    (omega arith) (omega arith) (omega arith) (c .before .before .keys-meant .ensures) (c .before .if1 .taken) (c .end-meant .ensures)
 
 returns-2 : tie.Need-returns-2
 returns-2 c =
-    let at-scan = c .before .before .before .before in
-    let at-start = at-scan .before .before .before .before .before in
-    checks-no (at-start .pre .0) (at-scan .scan .ensures) (at-scan .before .before .skip .ensures) (omega arith) (omega arith) (omega arith)
-    (omega arith) (c .before .keys-meant .ensures) (c .if1 .left)
+    checks-no (c .before .before .before .before .before .before .before .before .before .pre .0) (c .before .before .before .before .scan .ensures)
+    (c .before .before .before .before .before .before .skip .ensures) (omega arith) (omega arith) (omega arith) (omega arith)
+    (c .before .keys-meant .ensures) (c .if1 .left)
 
 pub check-chord-spec : {M : Type 1} → statement M
 check-chord-spec =
