@@ -22,28 +22,33 @@ push-span-requires c κs =
           (rw (pieces-length _ _ _ _) at (pre .2)),
     )
 
+-- the span, seen from behind it
+abbrev spanned : tie.After-struct-known4 → tie.After-push-span
+spanned c = c .before .before .before .before .before .before .before .before .before
+
 free-ends-requires : tie.Need-free-ends-requires
 free-ends-requires c κs =
     span-tied _ (omega arith)
-    (push-span-requires (c .before .before .before .before .before .before .before .before .before .before)
-    (c .before .before .before .before .before .before .before .before .before .push-span .lifetimes) .2 .heads-fit)
-    (c .before .before .before .before .before .before .before .before .before .push-span .ensures)
+    (push-span-requires (spanned c .before) (spanned c .push-span .lifetimes) .2 .heads-fit)
+    (spanned c .push-span .ensures)
+
+-- the same places, seen from the end
+abbrev span : tie.After-slice-known5 → tie.After-push-span
+span c = c .before .before .before .before .before .before .before .before .before .before .before .before
+
+abbrev flagged : tie.After-slice-known5 → tie.After-flag
+flagged c = span c .before .before .before .before
 
 returns : tie.Need-returns
 returns c =
-    let given =
-    c .before .before .before .before .before .before .before .before .before .before .before .before .before .before .before .before .before .before .before .before .before .args in
-    let fits = push-span-requires (c .before .before .before .before .before .before .before .before .before .before .before .before .before)
-    (c .before .before .before .before .before .before .before .before .before .before .before .before .push-span .lifetimes) .2 .heads-fit in
-    let span = c .before .before .before .before .before .before .before .before .before .before .before .before .push-span .ensures in
-    rw (
-      ← c .before .before .before .before .before .before .before .before .before .before .before .before .before .before .before .before .before .before .smaller .ensures,
-      ← c .before .before .before .before .before .before .before .before .before .before .before .before .before .before .before .before .before .larger .ensures,
-    )
+    let given = flagged c .before .before .before .before .before .args in
+    let fits = push-span-requires (span c .before) (span c .push-span .lifetimes) .2 .heads-fit in
+    let tied = c .before .before .before .before .before .before .before .before .before .before .before .before .push-span .ensures in
+    rw (← flagged c .before .before .smaller .ensures, ← flagged c .before .larger .ensures)
     (span-pieces (chordOf (given .c)) (given .c .keys) _ _ (omega arith) refl fits
     (rw
     (c .before .before .before .before .before .before .before .before .before .before .before .before .before .before .before .before .flag .ensures)
-    at span)
+    at tied)
     (c .before .before .free-ends .ensures))
 
 pub push-chord-spec : {M : Type 1} → statement M
