@@ -1,8 +1,8 @@
 -- Document 01's starred examples, together as one computed table.
-use Prim.Native.Nat.{ℕ}
+use Prim.Native.Nat.{ℕ, suc}
 use mathlib.Core.List.{List, [], _∷_, _++_, map, flatMap}
 use mathlib.Core.Path.{_≡_, refl}
-use lib.IntN.{natAbs}
+use lib.IntN.{ℤ, pos, negsuc}
 use lib.ListN.{replicate}
 use Rattle.rules.specs.Lists.{keep, flag}
 use Rattle.rules.specs.RawNotes.{RawNote}
@@ -51,9 +51,14 @@ pieceRow (v ∷ vs) = v .code ∷ v .dots ∷ pieceRow vs
 abbrev pub splitRow : Split → List ℕ
 splitRow s = pieceRow (s .pieces) ++ (s .left ∷ [])
 
+-- an integer: 1 where it is below 0, and its size
+abbrev pub signed : ℤ → List ℕ
+signed (pos n) = 0 ∷ n ∷ []
+signed (negsuc n) = 1 ∷ suc n ∷ []
+
 -- step (as semitones above C), octave, alteration
 abbrev pub spellingRow : Spelling → List ℕ
-spellingRow s = semitone (s .step) ∷ natAbs (s .octave) ∷ natAbs (s .alter) ∷ []
+spellingRow s = semitone (s .step) ∷ (signed (s .octave) ++ signed (s .alter))
 
 abbrev pub meter : ℕ → ℕ → Meter
 meter u l = record { upper = u; lower = l }
@@ -89,7 +94,7 @@ starred =
     -- tick 1 at p 96 becomes 5
     ∷ one (automationTick 96 1) 5
     -- key 61 is C sharp 4
-    ∷ row (spellingRow (spelled 61)) (0 ∷ 4 ∷ 1 ∷ [])
+    ∷ row (spellingRow (spelled 61)) (0 ∷ 0 ∷ 4 ∷ 0 ∷ 1 ∷ [])
     ∷ []
 
 pub starred-hold : given starred ≡ wanted starred

@@ -18,3 +18,6 @@ pub mod Refusals
 pub mod Calls
 pub mod Examples
 pub mod FurtherExamples
+pub mod EventExamples
+pub mod RefusalExamples
+pub mod ReadingExamples
