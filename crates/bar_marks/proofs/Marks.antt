@@ -1,22 +1,16 @@
 -- What is packed is section 4's mark, and unpacking gives back what was packed.
 use Prim.Native.Nat.{_+_, _*_, _/_, _^_}
-use mathlib.Core.Bool.{Bool, true, false}
 use mathlib.Core.Option.{none, some}
 use mathlib.Core.Path.{_≡_, refl}
 use native.Mathlib.Omega.{arith}
-use lib.Dec.{eqb}
 use Rattle.rules.specs.Lists.{flag}
 use Rattle.rules.specs.Bars.{markUpper, markLower, markPrinted, markTempo, markFifths, markMinor}
-use Rattle.laws.proofs.Tests.{flag-small}
+use Rattle.laws.proofs.Tests.{flag-small, flag-is}
 use Rattle.bar_marks.specs.Marks.{packed, PacksMark, UnpacksPacked}
 
 pub packs-mark : PacksMark
 packs-mark m isPrinted tempo none = refl
 packs-mark m isPrinted tempo (some k) = refl
-
-flag-is : (b : Bool) → eqb (flag b) 1 ≡ b
-flag-is true = refl
-flag-is false = refl
 
 pub unpacks-packed : UnpacksPacked
 unpacks-packed m fits =

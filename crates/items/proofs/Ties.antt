@@ -82,10 +82,6 @@ span-rests {w} {p} {t} s =
 
 -- ---- a chord
 
-pub flag-small : (b : Bool) → flag b ≤ 1
-flag-small true = omega arith
-flag-small false = omega arith
-
 -- each word of a span has its bits
 word-least : (bits : ℕ) (vs : List Value) (j : ℕ) → j < length vs → bits ≤ getD (map (pieceWord bits) vs) j 0
 word-least bits [] j h = absurd (omega arith)

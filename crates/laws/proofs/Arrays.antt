@@ -14,6 +14,7 @@ use Rattle.rules.specs.RawNotes.{RawNote}
 use Rattle.rules.specs.ProofReader.{Values, Right, Shaped}
 use Rattle.rules.specs.ProofReaderTests.{verdictOn}
 use Rattle.laws.proofs.Lists.{All-imp, All-map, All-flatten, by-four, length-flatten, length-flatten-each}
+use Rattle.laws.proofs.Tests.{flag-small}
 use Rattle.laws.proofs.Verdict.{says-verdict-on}
 
 -- an item whose code and dots have room in a head
@@ -21,10 +22,6 @@ abbrev pub Encodable : Item → Type 0
 Encodable i = (i .code ≤ 15) × (i .dots ≤ 1)
 
 -- ---- one item
-
-flag-small : (b : Bool) → flag b ≤ 1
-flag-small true = omega arith
-flag-small false = omega arith
 
 low-bit : (n f q : ℕ) → n ≡ f + 2 * q → f ≤ 1 → n % 2 ≡ f
 low-bit n f q e small = omega arith

@@ -1,14 +1,17 @@
 -- Bars: section 4's bars follow one another, and every bar lies before the last bar's end.
 use Prim.Native.Nat.{ℕ, zero, suc, _+_, _≤_, _<_}
+use mathlib.Core.Bool.{false}
 use mathlib.Core.List.{List, [], _∷_, map}
 use mathlib.Core.Logic.{inl, inr}
-use mathlib.Core.Path.{_≡_, refl}
-use lib.ListN.{length}
+use mathlib.Core.Path.{_≡_, refl, ap}
+use lib.ListN.{length, length-map}
 use native.Mathlib.Omega.{arith}
 use borrow.Author.Tests.{le-leb, lt-leb}
 use Rattle.rules.specs.Lists.{lastOr, sum, All}
 use Rattle.rules.specs.Changes.{Meter}
 use Rattle.rules.specs.Bars.{Bar, barLength, barEnd, barsFrom, lastBarEnd}
+use Rattle.rules.specs.Voices.{Chord}
+use Rattle.rules.specs.Staff.{voiceIn, voicesIn}
 use Rattle.laws.specs.Lines.{Consecutive}
 use Rattle.laws.proofs.Order.{by-lt}
 
@@ -76,3 +79,8 @@ pub last-bar-end : (t : ℕ) (bs : List Bar) → Consecutive t bs
 last-bar-end t [] h = tt
 last-bar-end t (b ∷ bs) h =
     bars-before (lastBarEnd (b ∷ bs)) t (b ∷ bs) (omega (arith, last-from t (b ∷ bs) h)) h
+
+-- a bar has as many voices as the staff
+pub bar-length : (p : ℕ) (vs : List (List Chord)) (b : Bar) → length (voicesIn p vs b) ≡ length vs
+bar-length p [] b = refl
+bar-length p (v ∷ vs) b = ap suc (length-map vs (voiceIn p false b))

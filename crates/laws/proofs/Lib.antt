@@ -4,6 +4,7 @@ pub mod ChordLaws
 pub mod Exact
 pub mod Filling
 pub mod Folds
+pub mod Grid
 pub mod KeyBits
 pub mod Largest
 pub mod Lists

@@ -7,6 +7,7 @@ use mathlib.Core.Path.{_≡_, refl, sym, ap, _∙_}
 use native.Mathlib.Numerals.{add-one}
 use native.Mathlib.Omega.{arith}
 use borrow.Author.Count as count
+use lib.Dec.{eqb}
 use lib.ListN.{length, getD}
 use Rattle.rules.specs.Lists.{All, keep, any, every, below, position, flag, lastOr, sortBy}
 use Rattle.laws.proofs.Lists.{All-imp, keep-none, keep-append}
@@ -78,6 +79,10 @@ module _ (f : ℕ → Bool) where
 pub flag-small : (b : Bool) → flag b ≤ 1
 flag-small true = omega arith
 flag-small false = omega arith
+
+pub flag-is : (b : Bool) → eqb (flag b) 1 ≡ b
+flag-is true = refl
+flag-is false = refl
 
 -- ---- how many pass
 

@@ -174,10 +174,6 @@ missed e Started = []
 missed e (Closed t k) = []
 missed e Unmatched = noteEvent e ∷ []
 
-pub flag-small : (b : Bool) → flag b ≤ 1
-flag-small true = omega arith
-flag-small false = omega arith
-
 pub record Left (x : Pairing) (e : Event) (r : Paired) : Type 1 where
   pub pending : length (after x e .pending) + closes r ≡ length (x .pending) + flag (isOn (e .word))
   pub closed : closes r ≡ 0 → after x e .closed ≡ x .closed

@@ -13,7 +13,8 @@ use Rattle.laws.proofs.Order.{by-bool}
 use Rattle.track_events.specs.Track.{Track, eventsOf, left, tickAt}
 use Rattle.track_events.proofs.Tracks.{left-cons, left-none, tick-next, track-sum}
 use Rattle.pairing.specs.Outcome.{after}
-use Rattle.pairing.proofs.Outcomes.{pair-cons, flag-small}
+use Rattle.laws.proofs.Tests.{flag-small}
+use Rattle.pairing.proofs.Outcomes.{pair-cons}
 
 -- whether an event is a start
 abbrev pub on : Event → Bool

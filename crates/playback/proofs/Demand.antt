@@ -1,18 +1,14 @@
 -- Demand 3 on the definitions: playback of an engraved staff, and yes to every engraved staff of an even part.
-use Prim.Native.Nat.{ℕ, _<_, _*_}
+use Prim.Native.Nat.{ℕ}
 use mathlib.Core.Bool.{true}
 use mathlib.Core.List.{List, map}
-use mathlib.Core.Logic.{inl, inr}
 use mathlib.Core.Path.{subst⁻¹}
-use native.Mathlib.Omega.{arith}
 use borrow.Author.Tests.{not-false}
-use lib.Dec.{ltb}
-use lib.ListN.{length}
 use Rattle.rules.specs.Lists.{All}
 use Rattle.rules.specs.Piece.{Piece, ticksPerQuarter}
 use Rattle.rules.specs.RawNotes.{RawNote}
 use Rattle.rules.specs.Bars.{Bar, bars, barsUpTo, lastBarEnd}
-use Rattle.rules.specs.Grid.{grid, offCount, snapped}
+use Rattle.rules.specs.Grid.{grid, snapped}
 use Rattle.rules.specs.Voices.{voices}
 use Rattle.rules.specs.Values.{smallest}
 use Rattle.rules.specs.Staff.{engravedOn}
@@ -23,7 +19,7 @@ use Rattle.laws.specs.Admitted.{Passes}
 use Rattle.laws.specs.Lines.{Line}
 use Rattle.laws.proofs.Arrays.{yes-written}
 use Rattle.laws.proofs.BarLaws.{bars-consecutive}
-use Rattle.laws.proofs.Order.{by-bool}
+use Rattle.laws.proofs.Grid.{grid-some}
 use Rattle.laws.proofs.Lists.{All-left, All-right}
 use Rattle.laws.proofs.Refusals.{admitted, ticks-per-quarter-positive, unless-agree}
 use Rattle.laws.proofs.Splits.{split-total, split-staff}
@@ -71,10 +67,6 @@ verdict-yes p g ns bs even =
 
 -- ---- parts of a piece
 
-grid-long : (p : ℕ) (ns : List RawNote) → 0 < grid p ns
-unfolding grid
-grid-long p ns = elim (by-bool (ltb (length ns) (offCount p ns * 10))) [ inl t ↦ rw t (omega arith) | inr t ↦ rw t (omega arith) ]
-
 part-even : (x : Piece) (k work : ℕ) → Passes (proofReadRefusals x k work)
     → Even (ticksPerQuarter x) (grid (ticksPerQuarter x) (partNotes x k)) (bars x)
 unfolding barsUpTo
@@ -84,7 +76,7 @@ part-even x k work h =
     let evens = says-even _ _ _ .0 (not-false (partEven x k) (last .1 .0)) in
     record {
       ticks = ticks-per-quarter-positive x known;
-      grid = grid-long (ticksPerQuarter x) (partNotes x k);
+      grid = grid-some (ticksPerQuarter x) (partNotes x k);
       fits = evens .0;
       row = bars-consecutive _ _ _ _ 0;
       lengths = evens .1;

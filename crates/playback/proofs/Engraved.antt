@@ -1,10 +1,10 @@
 -- The staff of voices in bars: its playback is the voices, its values are a staff's, its bars are full, its items clean and its ties meet.
-use Prim.Native.Nat.{ℕ, suc, _-_, _<_, _∣_}
+use Prim.Native.Nat.{ℕ, _-_, _<_, _∣_}
 use mathlib.Core.Bool.{Bool, true, false}
 use mathlib.Core.List.{List, [], _∷_, map, reverse-reverse}
 use mathlib.Core.Logic.{inl, inr}
 use mathlib.Core.Option.{Option, none, some}
-use mathlib.Core.Path.{_≡_, refl, _∙_, ap}
+use mathlib.Core.Path.{_≡_, refl, _∙_}
 use native.Mathlib.Nat.{dvd-add, dvd-zero}
 use native.Mathlib.Omega.{arith}
 use lib.ListN.{length, length-map}
@@ -18,6 +18,7 @@ use Rattle.rules.specs.ProofReader.{Timed, Played, Tie, StaffValue, Clean, Valu
 use Rattle.rules.specs.ProofReader.{timedFrom, voiceItems, voiceTimed, playback, played}
 use Rattle.laws.specs.Lines.{Line, Consecutive}
 use Rattle.laws.specs.Ladder.{StaffPiece}
+use Rattle.laws.proofs.BarLaws.{bar-length}
 use Rattle.laws.proofs.Order.{by-bool}
 use Rattle.laws.proofs.Lists.{All-all, All-map, any-none, keep-none, by-four}
 use Rattle.playback.specs.Performance.{heardTo}
@@ -69,10 +70,6 @@ or-empty p b [] f = tt
 or-empty p b (i ∷ is) f = f
 
 -- ---- the staff's shape
-
-pub bar-length : (p : ℕ) (vs : List (List Chord)) (b : Bar) → length (voicesIn p vs b) ≡ length vs
-bar-length p [] b = refl
-bar-length p (v ∷ vs) b = ap suc (length-map vs (voiceIn p false b))
 
 pub staff-shape : (p : ℕ) (vs : List (List Chord)) (bs : List Bar) → length vs ≡ 4 → All (λ (bar : List (List Item)). length bar ≡ 4) (staffOf p vs bs)
 staff-shape p vs bs four = All-map _ (voicesIn p vs) (λ b e. e ∙ four) bs (All-all (bar-length p vs) bs)

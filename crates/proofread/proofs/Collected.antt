@@ -1,20 +1,20 @@
 -- The raw notes that were collected in the work area are those of the track, and the proof-reader can read them on their grid.
-use Prim.Native.Nat.{ℕ, _+_, _*_, _/_, _%_, _^_, _≤_, _<_, max}
-use mathlib.Core.Bool.{Bool, true, false, cond}
+use Prim.Native.Nat.{ℕ, _+_, _*_, _/_, _%_, _^_, _≤_, _<_}
+use mathlib.Core.Bool.{true}
 use mathlib.Core.List.{List}
 use mathlib.Core.Logic.{inl, inr}
 use mathlib.Core.Path.{_≡_, sym, ap, subst, _∙_}
 use native.Mathlib.Nat.{mul-le-mul-right, le-div-iff-mul-le, div-mul-le-self}
 use native.Mathlib.Omega.{arith}
-use lib.Dec.{ltb}
 use lib.ListN.{length, getD}
 use lib.Seq.{getD-take}
 use Rattle.rules.specs.Lists.{All}
 use Rattle.rules.specs.Piece.{Event}
 use Rattle.rules.specs.RawNotes.{RawNote, rawNotes, rawNotesOf, byStart}
-use Rattle.rules.specs.Grid.{snap, sixteenth, offCount, grid}
+use Rattle.rules.specs.Grid.{snap, grid}
 use Rattle.laws.specs.NoteWords.{InRange, startWord, endWord}
 use Rattle.laws.specs.Sort.{Rises}
+use Rattle.laws.proofs.Grid.{grid-some, grid-small}
 use Rattle.laws.proofs.Lists.{All-get}
 use Rattle.laws.proofs.Order.{by-eq}
 use Rattle.laws.proofs.Parts.{part-get}
@@ -23,14 +23,6 @@ use Rattle.laws.proofs.Sort.{rises-sort, rises-get}
 use Rattle.raw_notes.specs.Columns.{Noted}
 use Rattle.proofread_notes.specs.Columns.{rawAt, Readable}
 use Rattle.proofread_staff.specs.Staffs.{rawsAt}
-
-grid-small : (p : ℕ) (ns : List RawNote) → p ≤ 65535 → (0 < grid p ns) × (grid p ns ≤ 65535)
-unfolding grid
-grid-small p ns h = by (ltb (length ns) (offCount p ns * 10))
-  where
-    by : (b : Bool) → (0 < cond b (max 1 (p / 8)) (sixteenth p)) × (cond b (max 1 (p / 8)) (sixteenth p) ≤ 65535)
-    by true = (omega arith, omega arith)
-    by false = (omega arith, omega arith)
 
 -- ---- the notes
 
@@ -85,13 +77,13 @@ module _ {es : List Event} {n m : ℕ} {w : List ℕ} (noted : Noted es n m w) (
 
   pub notes-readable : (p : ℕ) {g : ℕ} → p ≤ 65535 → 16 * n ≤ length w → g ≡ grid p (rawsAt n m w) → Readable g n m w
   notes-readable p {g} h area e =
-      let q = grid-small p (rawsAt n m w) h in
-      let some : 0 < g = omega (arith, q .0) in
+      let all : List RawNote = rawsAt n m w in
+      let some : 0 < g = omega (arith, grid-some p all) in
       record {
         area = area;
         room = noted .room;
         some-grid = some;
-        small-grid = omega (arith, q .1);
+        small-grid = omega (arith, grid-small p all h);
         range = λ i l. subst (InRange (2 ^ 47)) (sym (raw-is i l)) (in-range i l);
         rises = λ i j l k. snap-mono g (rawAt n w i .start) (rawAt n w j .start) some (starts-up i j l k);
       }

@@ -8,7 +8,7 @@ use native.Mathlib.Numerals.{add-one}
 use native.Mathlib.Omega.{arith}
 use lib.Dec.{eqb, ltb}
 use lib.ListN.{length, getD, take, drop, length-drop}
-use Rattle.rules.specs.Lists.{All, every, any, flag, sum}
+use Rattle.rules.specs.Lists.{All, every, any, sum}
 use Rattle.rules.specs.RawNotes.{RawNote}
 use Rattle.rules.specs.Bars.{Bar, lastBarEnd}
 use Rattle.rules.specs.Grid.{snapped}
@@ -16,7 +16,7 @@ use Rattle.rules.specs.Items.{Item, Staff, cutBy, byFours, readItems, readStaff
 use Rattle.rules.specs.ProofReader.{voiceTimed, Played, heardAfter, played}
 use Rattle.rules.specs.ProofReaderTests.{noteFound?, right?}
 use Rattle.laws.specs.Sort.{count}
-use Rattle.laws.proofs.Tests.{every-map}
+use Rattle.laws.proofs.Tests.{every-map, flag-is}
 use Rattle.proofread_notes.specs.Columns.{rawAt, snapAt, notesAt, Same, Marks, hears?, found?, allFound?}
 use Rattle.proofread_notes.proofs.Areas.{same-self, same-then, notes-same}
 use Rattle.proofread_voices.specs.Voices.{voiceRun, silent, voiceOk?, ReadsVoice}
@@ -93,10 +93,6 @@ every-count : (f g : ℕ → Bool) (k a : ℕ) → ((j : ℕ) → a ≤ j → j 
 unfolding every count
 every-count f g zero a h = refl
 every-count f g (suc k) a h = λ i. h a (omega arith) (omega arith) i && every-count f g k (suc a) (λ j l o. h j (omega arith) (omega arith)) i
-
-flag-is : (b : Bool) → eqb (flag b) 1 ≡ b
-flag-is true = refl
-flag-is false = refl
 
 -- the marks of all chords say which notes are found
 pub found-is : (p : ℕ) (bs : List Bar) (st : Staff) (g n m e : ℕ) (w : List ℕ) → Marks g n m w (chordsUpTo p bs st 4)

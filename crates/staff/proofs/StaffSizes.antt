@@ -17,6 +17,7 @@ use Rattle.rules.specs.Staff.{voiceIn, voicesIn, staffOf}
 use Rattle.rules.specs.Voices.{Chord}
 use Rattle.laws.specs.Lines.{Line}
 use Rattle.laws.specs.Sort.{count}
+use Rattle.laws.proofs.BarLaws.{bar-length}
 use Rattle.laws.proofs.Lists.{All-map, All-keep, All-all}
 use Rattle.laws.proofs.Order.{by-lt}
 use Rattle.bar_voice.specs.Voices.{voiceOf, Skipped}
@@ -55,10 +56,6 @@ module _ (p : ℕ) (vs : List (List Chord)) where
   items-part bs cs = rw (map-append, flatten-append, flatten-append, length-append) (omega arith)
 
 -- ---- how many
-
-bar-length : (p : ℕ) (vs : List (List Chord)) (b : Bar) → length (voicesIn p vs b) ≡ length vs
-bar-length p [] b = refl
-bar-length p (v ∷ vs) b = ap suc (length-map vs (voiceIn p false b))
 
 -- four counts a bar
 pub counts-length : (p : ℕ) (vs : List (List Chord)) → length vs ≡ 4 → (bs : List Bar) → length (arraysOf (staffOf p vs bs) .counts) ≡ 4 * length bs

@@ -1,13 +1,10 @@
 -- The voices that stand in the work area are the notes', and a grid is in range.
-use Prim.Native.Nat.{ℕ, _*_, _/_, _<_, _≤_, max}
-use mathlib.Core.Bool.{Bool, true, false, cond}
-use mathlib.Core.List.{List, []}
+use Prim.Native.Nat.{ℕ, _*_, _<_, _≤_}
+use mathlib.Core.List.{List}
 use mathlib.Core.Path.{_≡_, sym}
 use native.Mathlib.Nat.{one-dvd}
 use native.Mathlib.Omega.{arith}
-use lib.Dec.{ltb}
 use lib.ListN.{length, getD}
-use Rattle.rules.specs.Grid.{grid, offCount}
 use Rattle.rules.specs.RawNotes.{RawNote}
 use Rattle.rules.specs.Voices.{voices}
 use Rattle.laws.specs.Lines.{Line}
@@ -40,18 +37,3 @@ module _ (g : ℕ) (ns : List RawNote) {n : ℕ} {r : Voices} {w : List ℕ} (gi
         numbers = λ j l. number-small given area v j h l;
         line = rw (voice-same v h) (All-get (Line 1 0) (voices g ns) v [] (voices-line 1 g ns some-grid (one-dvd g)) (omega (arith, voices-four g ns)));
       }
-
--- ---- the grid
-
-grid-cases : (p : ℕ) (t : Bool) → (0 < cond t (max 1 (p / 8)) (max 1 (p / 4))) × (p ≤ 65535 → cond t (max 1 (p / 8)) (max 1 (p / 4)) ≤ 65535)
-grid-cases p true = (omega arith, λ h. omega arith)
-grid-cases p false = (omega arith, λ h. omega arith)
-
-module _ (p : ℕ) (ns : List RawNote) where
-  pub grid-some : 0 < grid p ns
-  unfolding grid
-  grid-some = grid-cases p (ltb (length ns) (offCount p ns * 10)) .0
-
-  pub grid-small : p ≤ 65535 → grid p ns ≤ 65535
-  unfolding grid
-  grid-small = grid-cases p (ltb (length ns) (offCount p ns * 10)) .1

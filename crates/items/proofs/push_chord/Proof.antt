@@ -5,7 +5,8 @@ use native.Mathlib.Omega.{arith}
 use borrow.Author.Needs.{needs}
 use Rattle.chords.specs.Columns.{chordOf}
 use Rattle.items.proofs.Pieces.{pieces-length}
-use Rattle.items.proofs.Ties.{flag-small, span-tied, span-pieces}
+use Rattle.laws.proofs.Tests.{flag-small}
+use Rattle.items.proofs.Ties.{span-tied, span-pieces}
 use Rattle.items.proofs.push_chord.Statement.{statement}
 use Rattle.items.proofs.push_chord.Tie as tie
 

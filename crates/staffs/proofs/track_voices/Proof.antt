@@ -2,7 +2,8 @@
 use native.Mathlib.Omega.{arith}
 use borrow.Author.Needs.{needs}
 use Rattle.raw_notes.proofs.Ready.{notes-ready}
-use Rattle.staffs.proofs.TrackVoices.{grid-some, grid-small, voices-same, voices-held}
+use Rattle.laws.proofs.Grid.{grid-some, grid-small}
+use Rattle.staffs.proofs.TrackVoices.{voices-same, voices-held}
 use Rattle.staffs.proofs.track_voices.Statement.{statement}
 use Rattle.staffs.proofs.track_voices.Tie as tie
 
