@@ -1,6 +1,6 @@
 -- The voices that stand in the work area are the notes', and a grid is in range.
 use Prim.Native.Nat.{ℕ, _*_, _<_, _≤_}
-use mathlib.Core.List.{List}
+use mathlib.Core.List.{List, []}
 use mathlib.Core.Path.{_≡_, sym}
 use native.Mathlib.Nat.{one-dvd}
 use native.Mathlib.Omega.{arith}
