@@ -187,12 +187,23 @@ class Row:
             if crate not in crate_lines():
                 self.fault(f"no such crate: {crate}")
         crates = [crate for crate in crates if crate in crate_lines()]
-        if not ticked(rest) and not rest.startswith("every "):
-            self.unread(rest)
+        if not ticked(rest):
+            self.every(crates, rest)
         for name in ticked(rest):
             count("functions and theorems")
             if crates and not any(has(in_crate(crate), name) for crate in crates):
                 self.fault(f"{' and '.join(crates)}: no {name}")
+
+    def every(self, crates, rest):
+        """every loop .., every public call: each crate has one."""
+        forms = {"every loop": r"^ *(?:'\w+: )?(?:while|for|loop)\b", "every public call": r"^ *pub fn\b"}
+        said = next((form for form in forms if rest.startswith(form)), None)
+        if said is None:
+            self.unread(rest)
+            return
+        for crate in crates:
+            if not re.search(forms[said], sources(crate), re.M):
+                self.fault(f"{crate}: {rest}, but it has none")
 
     def unused(self, part):
         """crates.txt: no crate of the proof-reader has grid, values or staff"""
@@ -348,8 +359,8 @@ def readme():
             row.fault("not as many cells as the table has columns")
         elif heads[:2] == ["call", "C entry"]:
             row.call(cells)
-        elif heads[-1] == "file":
-            row.statement(cells["file"])
+        elif heads[-1] in ("file", "maps, file"):
+            row.statement(cells[heads[-1]])
         elif heads == ["section of document 01", "file of crates/rules/specs"]:
             row.sections(cells[heads[1]])
         elif heads == ["crate", "holds"]:
@@ -364,7 +375,7 @@ def readme():
 
 
 # A path of the repository. What stands in target/ is made.
-PATH = r"(?<![\w./-])((?:\.\./)?(?:\.ci|crates|differential|docs|examples|include)/[\w./-]*\w|crates\.txt|print\.sh)"
+PATH = r"(?<![\w./-])((?:\.\./)?(?:\.ci|crates|differential|docs|examples|include)/[\w./-]*\w|crates\.txt|(?:install|print)\.sh)"
 
 
 def paths():
