@@ -3,11 +3,12 @@
 
     python3 docs/check_trace.py
 
-Of TRACE.md: each `crate/edit` is a must-fail edit, each row of Examples is in that table, each definition is in the file
-named, each name under "proved by" is a function, a statement or a proof of the crate named. Of README.md's tables: calls
-and C entries, statements and the files that they are in, definition files, crates. Of README.md, CHANGELOG.md and docs/:
-each path of the repository that is named exists. Prints what is missing and leaves with status 1; else prints counts and
-leaves with 0. A form that it cannot read is printed too: a row is in one of the forms below, or the script is taught it.
+Of TRACE.md: each `crate/edit` is a must-fail edit, each row of Examples is in that table, each definition is in the
+file named, each name under "proved by" is a function, a statement or a proof of the crate named, and no cell names one
+twice. Of README.md's tables: calls and C entries, statements and maps and the files that they are in, definition files,
+crates. Of README.md, CHANGELOG.md and docs/: each path of the repository that is named exists. Prints what is missing
+and leaves with status 1; else prints counts and leaves with 0. A form that it cannot read is printed too: a row is in
+one of the forms below, or the script is taught it.
 """
 import fnmatch
 import re
@@ -129,8 +130,8 @@ class Row:
         self.fault(f"no such file of definitions: {place}")
 
     def definition(self, cell):
-        """File: `name`, `name`; `name`; crate/specs/File: `name`. A part without a file goes on with the file before it, or
-        with that file's tests."""
+        """File: `name`, `name`; `name`; crate/specs/File: `name`. A part without a file goes on with the file before
+        it, or with that file's tests."""
         path = None
         for part in [] if cell == "-" else cell.split("; "):
             place, colon, rest = part.partition(": ")
@@ -157,7 +158,7 @@ class Row:
                 self.defined(path, part, bool(colon))
 
     def defined(self, path, part, owned):
-        """The names listed are declared in the file. Those that the words around them bring in may be used there alone."""
+        """The names listed are declared in the file. Those that the words behind them bring in may be used there."""
         tests = path.with_name(path.stem + "Tests.antt")
         known = declared(path) | (frozenset() if owned or not tests.is_file() else declared(tests))
         listed = re.match(r"(?:.*?: |[a-z]+ )?((?:`[^`]+`(?:, )?)*)", part).group(1)
@@ -375,7 +376,8 @@ def readme():
 
 
 # A path of the repository. What stands in target/ is made.
-PATH = r"(?<![\w./-])((?:\.\./)?(?:\.ci|crates|differential|docs|examples|include)/[\w./-]*\w|crates\.txt|(?:install|print)\.sh)"
+FOLDERS = r"(?:\.\./)?(?:\.ci|crates|differential|docs|examples|include)"
+PATH = rf"(?<![\w./-])({FOLDERS}/[\w./-]*\w|crates\.txt|(?:install|print)\.sh)"
 
 
 def paths():

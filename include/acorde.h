@@ -33,7 +33,7 @@
      acorde_automation    ticks, out            as many elements each as the part's track has events suffice
      acorde_diagnostics   places, details       as many elements each as the piece has events, + 1, suffice
      all with a work area                       ACORDE_WORK(N) elements, N the most note-ons above velocity 0 in one
-                                                track, whether that track is the part asked for, another or none
+                                                track: the part's own, another part's, or one that is no part
 
    N need not be known: any number that is not smaller serves, and the piece's number of events never is. For the least
    area count the note-ons of each track and take the largest count. Once a call on the piece has given any number but
