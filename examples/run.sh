@@ -12,7 +12,7 @@ flags="-std=c99 -Wall -Wextra -Werror -pedantic -Iinclude"
 number() { sed -n "s/^#define ACORDE_VERSION$1 \"*\([0-9.]*\)\"*$/\1/p" include/acorde.h; }
 top=$(sed -n 's/^## \([0-9.]*\).*/\1/p' CHANGELOG.md | head -n 1)
 if [ "$(number "")" != "$(number _MAJOR).$(number _MINOR).$(number _PATCH)" ] || [ "$(number "")" != "$top" ]; then
-    echo "include/acorde.h: $(number ""), in numbers $(number _MAJOR) $(number _MINOR) $(number _PATCH); CHANGELOG.md: $top"
+    echo "acorde.h has $(number ""), in numbers $(number _MAJOR) $(number _MINOR) $(number _PATCH); CHANGELOG.md $top"
     exit 1
 fi
 
