@@ -319,11 +319,25 @@ static int print_diagnostics(const Piece *x, uint64_t *work, size_t work_n) {
 
 /* ---- */
 
+/* N, the most note-ons above velocity 0 in one track, of a piece whose sizes are in order. */
+static size_t most_notes(const uint32_t *sizes, const uint32_t *words) {
+    size_t n, t, i, e, ons;
+    for (n = t = i = 0; t < sizes[1]; t++, n = ons > n ? ons : n)
+        for (ons = e = 0; e < sizes[2 + t]; e++, i++)
+            ons += ACORDE_IS_ON(words[i]);
+    return n;
+}
+
 static int import(const Piece *x) {
-    /* The events are no fewer than the note-ons of any track. One area serves all calls. */
-    const size_t work_n = ACORDE_WORK(x->words.n);
-    uint64_t *work = lend(work_n, sizeof *work);
-    int ok = print_head(x) && print_bars(x) && print_parts(x, work, work_n) && print_diagnostics(x, work, work_n);
+    uint64_t *work;
+    size_t work_n;
+    int ok;
+    if (!print_head(x) || !print_bars(x))
+        return 0;
+    /* The head was answered, so the sizes are in order. One area serves all calls. */
+    work_n = ACORDE_WORK(most_notes(x->sizes.at, x->words.at));
+    work = lend(work_n, sizeof *work);
+    ok = print_parts(x, work, work_n) && print_diagnostics(x, work, work_n);
     free(work);
     return ok;
 }

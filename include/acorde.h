@@ -1,8 +1,8 @@
 /* acorde.h: from the events of a MIDI recording to bars of up to four voices, for C and C++.
 
-   This file is the manual. It has, in this order: what is asked of a caller; what every call promises; limits;
-   refusals; the piece; the answers; the calls, each under its contract. examples/first.c is a first program,
-   examples/import.c one that makes every call.
+   This file is the manual. It has, in this order: what is asked of a caller; what every call promises; how much to
+   lend; times; the version; limits; refusals; the piece; its notes; the answers; the calls, each under its contract.
+   examples/first.c is a first program, examples/import.c one that makes every call.
 
    WHAT IS ASKED OF A CALLER
 
@@ -33,16 +33,25 @@
      acorde_automation    ticks, out            as many elements each as the part's track has events suffice
      acorde_diagnostics   places, details       as many elements each as the piece has events, + 1, suffice
      all with a work area                       ACORDE_WORK(N) elements, N the most note-ons above velocity 0 in one
-                                                track; the piece's number of events always suffices as N
+                                                track: the part's own, another part's, or one that is no part
+
+   N need not be known: any number that is not smaller serves, and the piece's number of events never is. For the least
+   area count the note-ons of each track and take the largest count. Once a call on the piece has given any number but
+   ACORDE_SIZES (0 too) the arrays fit each other, and with size_t n, t, i, e, ons this makes n the N of the piece:
+
+     for (n = t = i = 0; t < sizes[1]; t++, n = ons > n ? ons : n)
+         for (ons = e = 0; e < sizes[2 + t]; e++, i++)
+             ons += ACORDE_IS_ON(words[i]);
 
    TIME
 
-   Each call reads the whole piece again, and zeroes all of the work area that it is lent. Heads, counts, bars,
-   automation and diagnostics take time in proportion to events, tracks and bars; sizes, staffs and proof-reading sort
-   the part's notes too. One shape of piece takes longer: acorde_staff_size and acorde_engrave compare a note with the
-   chords that begin where it begins and end elsewhere, so that n notes of one start and n different ends take n * n / 2
-   comparisons: 0.02 seconds for 5,000 such notes on a desk machine, 2 seconds for 50,000, up to a minute for the worst
-   of all pieces. */
+   Each call admits and reads the whole piece again, whatever part it is asked for, and zeroes all of the work area that
+   it is lent. So an import of all parts, some calls for each, takes time in proportion to parts * events. Heads,
+   counts, bars, automation and diagnostics take time in proportion to events, tracks and bars; sizes, staffs and
+   proof-reading sort the part's notes too. One shape of piece takes longer: acorde_staff_size and acorde_engrave
+   compare a note with the chords that begin where it begins and end elsewhere, so that n notes of one start and n
+   different ends take n * n / 2 comparisons: 0.02 seconds for 5,000 such notes on a desk machine, 2 seconds for 50,000,
+   up to a minute for the worst of all pieces. */
 #ifndef ACORDE_H
 #define ACORDE_H
 
@@ -52,6 +61,15 @@
 #ifdef __cplusplus
 extern "C" {
 #endif
+
+/* ---- Version ----------------------------------------------------------------------------------------------------- */
+
+/* Of this header and of the archive built with it. MAJOR grows where a program for the version before may no longer be
+   right, MINOR where something is added. CHANGELOG.md has what changed. */
+#define ACORDE_VERSION "1.0.0"
+#define ACORDE_VERSION_MAJOR 1
+#define ACORDE_VERSION_MINOR 0
+#define ACORDE_VERSION_PATCH 0
 
 /* ---- Limits ------------------------------------------------------------------------------------------------------ */
 
@@ -76,8 +94,8 @@ extern "C" {
    applies. Only 4 and 5 are asked together: the first event that is bad in either way decides, 4 first. Each call says
    which numbers it can give. */
 #define ACORDE_OK 0
-#define ACORDE_SIZES 1    /* sizes_n is not 2 + the number of tracks, deltas_n or words_n is not the sum of the event
-                             counts, or the division or the number of tracks is above ACORDE_LARGEST_SIZE */
+#define ACORDE_SIZES 1    /* sizes_n is 0 or 1, or not 2 + the number of tracks, deltas_n or words_n is not the sum of
+                             the event counts, or the division or the number of tracks is above ACORDE_LARGEST_SIZE */
 #define ACORDE_DIVISION 2 /* the division is 0 */
 #define ACORDE_EVENTS 3   /* more than ACORDE_MOST_EVENTS events */
 #define ACORDE_DELTA 4    /* a delta above ACORDE_LARGEST_DELTA */
@@ -97,7 +115,8 @@ extern "C" {
      words    one for each event: what it is
 
    The division is a MIDI file's field. With bit 15 set it is timecode, taken as 480 ticks per quarter; otherwise it is
-   the ticks per quarter itself. An event's tick is the sum of its track's deltas through its own. T may be 0.
+   the ticks per quarter itself. An event's tick is the sum of its track's deltas through its own. T may be 0, and a
+   track may have no events: both are admitted. Without notes there is number 6, but not for acorde_diagnostics.
 
    A word's bytes, from the top, are its kind, a, b and c. Bytes that the table does not name are 0.
 
@@ -147,8 +166,34 @@ extern "C" {
 #define ACORDE_WORD_C(w) ((uint32_t)(w) & 255)
 #define ACORDE_BEND_VALUE(w) ((int32_t)(ACORDE_WORD_B(w) + 128 * ACORDE_WORD_C(w)) - 8192)
 
+/* 1 if a word is a note-on above velocity 0, else 0. */
+#define ACORDE_IS_ON(w) (ACORDE_WORD_KIND(w) == ACORDE_KIND_ON && ACORDE_WORD_C(w) != 0)
+
 /* The ticks per quarter of a division. */
 #define ACORDE_TICKS_PER_QUARTER(division) ((uint32_t)(division) & 32768 ? 480 : (uint32_t)(division))
+
+/* ---- Notes ------------------------------------------------------------------------------------------------------- */
+
+/* What the calls mean by a note. Each track is taken by itself, in the order of its events:
+
+   - A note-on above velocity 0 starts a note of its channel and key at its tick. Each such note-on gives just one note.
+   - A note off, or a note-on of velocity 0, ends the oldest note of its channel and key that has not been ended. Where
+     there is none it makes no note and changes nothing (diagnostic 4).
+   - A note that nothing ends lasts to the track's last tick, that of its last event of any kind (diagnostic 5).
+   - Every note lasts at least 1 tick: its end is at least its start + 1.
+   - Nothing else ends a note, controllers 120 to 127 neither.
+
+   Bars go by these starts and ends. Staffs and proof-reading go by snapped ones. Each part has a grid of its own for
+   them, worked out from all its notes; p is the ticks per quarter, and / gives the whole part:
+
+     sixteenth            q = p / 4, at least 1
+     off the sixteenths   a note whose start % q is above t and below q - t, where t = q / 4
+     grid                 g = p / 8, at least 1, if 10 * (notes off the sixteenths) is above the number of notes; else q
+     snapped tick         (tick + g / 2) / g * g: the nearest multiple of g, the later one where two are as near
+     snapped note         from its snapped start to its snapped end, but at least g long
+
+   At 480 ticks per quarter q is 120 and t is 30: a start 31 to 89 ticks after a sixteenth is off. With one such note in
+   10 the grid is 120, with one in 9 it is 60. On the grid of 120 tick 59 snaps to 0, tick 60 to 120. */
 
 /* ---- Answers ----------------------------------------------------------------------------------------------------- */
 
@@ -236,9 +281,9 @@ AcordePartHead acorde_part_head(const uint32_t *sizes, size_t sizes_n, const uin
               bits 33-63  0
 
    A bar goes by the last meter at or before its start, else by 4/4; its length is ACORDE_BAR_TICKS, and the next bar
-   starts where it ends. Bars go on until one ends at or after the end of the last note of all parts. A tempo after tick
-   0, and a key at any tick, is marked only on a bar that starts at its tick; the last at that tick counts. Numbers 1 to
-   6 and 8; 8 here is for the outputs, there is no work area. */
+   starts where it ends. Bars go on until one ends at or after the largest end of a note of all parts: the note's own
+   end, not the snapped one. A tempo after tick 0, and a key at any tick, is marked only on a bar that starts at its
+   tick; the last at that tick counts. Numbers 1 to 6 and 8; 8 here is for the outputs, there is no work area. */
 AcordeCount acorde_bars(const uint32_t *sizes, size_t sizes_n, const uint32_t *deltas, size_t deltas_n,
                         const uint32_t *words, size_t words_n, uint64_t *starts, size_t starts_n, uint64_t *marks,
                         size_t marks_n);
@@ -278,12 +323,21 @@ AcordeStaff acorde_staff_size(const uint32_t *sizes, size_t sizes_n, const uint3
               bits 9-31   0
      keys     two elements an item: bit k of the first for key k, of the second for key 64 + k; a rest has no keys
 
-   Notes are snapped to a grid of sixteenths, or of thirty-seconds where more than a tenth of the part's notes start off
-   the sixteenths; notes of equal start and end are one chord. A chord goes to the lowest voice that is free at its
-   start. Where none is, its keys go to the first voice whose last chord has that start, or else the voice that ends
-   earliest is cut short for it. Chords are cut at bar lines, and into the longest written values that fit. In a bar in
-   which a voice does not sound, voice 0 has rests and voices 1 to 3 have no items. Ticks that no written value fits are
-   dropped, so that a voice may end before its bar does (a part of number 9, below). Numbers 1 to 8. */
+   The part's notes are snapped (Notes, above), and notes of equal snapped start and end are one chord. Chords are given
+   to voices in the order of their starts, of equal starts the one whose highest key is higher first, of equal highest
+   keys the one whose note of that key starts, then ends, earlier. A chord goes to the lowest voice that is free: it has
+   no chord, or its last one ends at or before the new start. Where none is free, its keys, not its unpitched mark, go
+   to the last chord of the lowest voice whose last chord has that start. Failing that, the voice that ends earliest,
+   the lowest of several, is cut short at the new start and takes it. Chords are cut at bar lines, and into the longest
+   written values that fit. In a bar in which a voice does not sound, voice 0 has rests and voices 1 to 3 have no items.
+   Ticks that no written value fits are dropped, so that a voice may end before its bar does (a part of number 9,
+   below).
+
+   A note whose snapped start is at or after the end of the last bar is not written, since bars go to the notes' own
+   ends: at 480 ticks per quarter in 4/4 a sole note from 1900 to 1920 makes one bar, snaps to 1920, and its staff is a
+   rest. No diagnostic tells of it. A chord that ends after the last bar is cut there and keeps its tie-out.
+
+   Numbers 1 to 8. */
 AcordeStaff acorde_engrave(const uint32_t *sizes, size_t sizes_n, const uint32_t *deltas, size_t deltas_n,
                            const uint32_t *words, size_t words_n, uint32_t part, uint32_t *counts, size_t counts_n,
                            uint32_t *heads, size_t heads_n, uint64_t *keys, size_t keys_n, uint64_t *work,
