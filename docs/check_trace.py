@@ -173,7 +173,7 @@ class Row:
             if part.startswith("crates.txt: "):
                 self.unused(part)
                 continue
-            if re.match(r"every call\b", part):
+            if re.match(r"every call\b|Rattle's check of every function", part):
                 continue
             groups = re.split(r"(?:^|, )([a-z]\w*(?:, [a-z]\w*)*): ", part)
             if groups[0] or len(groups) < 3:
@@ -243,7 +243,7 @@ class Row:
         self.once(names, cell)
 
     def example(self, said):
-        """A row of Examples or FurtherExamples: one of their comments has these words and numbers."""
+        """A row of the tables of examples: one of their comments has these words and numbers."""
         count("rows of Examples")
         wanted = words(said) - {"a", "an", "the", "and", "of", "at", "in", "that"}
         if not any(wanted <= words(comment) for comment in examples()):
@@ -322,7 +322,7 @@ def words(said):
 
 @lru_cache(maxsize=None)
 def examples():
-    pages = (RULES / "Examples.antt", RULES / "FurtherExamples.antt")
+    pages = sorted(RULES.glob("*Examples.antt"))
     return [comment for page in pages for comment in re.findall(r"^    -- (.*)", text(page), re.M)]
 
 
@@ -345,8 +345,12 @@ def trace():
             row.noticed(cells["noticed by"])
         elif heads == ["example", "where"]:
             where = cells["where"]
-            if where.startswith("Examples: "):
+            if re.match(r"\w*Examples: ", where):
                 row.definition(where)
+        elif heads == ["trap", "noticed by"]:
+            row.noticed(cells["noticed by"])
+        elif heads == ["place", "form", "proved by"]:
+            row.proved(cells["proved by"])
         else:
             row.unread(" | ".join(heads))
 
