@@ -45,12 +45,12 @@ def crate_lines():
 
 # A declaration of a .antt file: `abbrev pub name : ..`, `pub record Name (..) ..`, in a module too.
 DECLARED = re.compile(r"^ *(?:(?:abbrev|unfoldable) )?pub (?:(?:record|data) )?([^\s:{(]+)(?= *[:{(\n])", re.M)
-FUNCTION = re.compile(r"^ *(?:pub )?(?:extern \"C\" )?fn (\w+)", re.M)
+FUNCTION = re.compile(r"^ *(?:pub )?(?:extern \"C\" )?(?:fn|struct|enum) (\w+)", re.M)
 
 
 @lru_cache(maxsize=None)
 def declared(path):
-    """The names that a file declares: of a .rt file its functions, of a .antt file what others can cite."""
+    """The names that a file declares: of a .rt file its functions and types, of a .antt file what others can cite."""
     names = (FUNCTION if path.suffix == ".rt" else DECLARED).findall(text(path))
     return frozenset(name.strip("«»") for name in names)
 
