@@ -11,6 +11,7 @@ pub mod Loops
 pub mod NoteRanges
 pub mod Notes
 pub mod Order
+pub mod Orders
 pub mod Parts
 pub mod Places
 pub mod Reflection

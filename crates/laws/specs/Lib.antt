@@ -5,6 +5,7 @@ pub mod Ladder
 pub mod Lines
 pub mod NoteWords
 pub mod Notes
+pub mod Orders
 pub mod Parts
 pub mod Places
 pub mod Says
