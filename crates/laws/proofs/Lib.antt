@@ -4,6 +4,7 @@ pub mod ChordLaws
 pub mod Exact
 pub mod Filling
 pub mod Folds
+pub mod HashOrder
 pub mod KeyBits
 pub mod Largest
 pub mod Lists
@@ -19,6 +20,7 @@ pub mod Refusals
 pub mod Sort
 pub mod Splits
 pub mod Standards
+pub mod Swaps
 pub mod Tests
 pub mod Values
 pub mod Verdict

@@ -3,24 +3,24 @@ use Prim.Native.Nat.{ℕ}
 use mathlib.Core.Bool.{Bool, true, false, cond, not, _&&_, _||_}
 use mathlib.Core.List.{List, [], _∷_, _++_, map, foldl, head?, append-assoc, map-append, map-map}
 use mathlib.Core.List.{List·Permᴰ·cons, List·Permᴰ·swap, List·Permᴰ·trans}
-use mathlib.Core.List.{Permᴰ·refl, Permᴰ·map, Permᴰ·middle, Permᴰ·append-nil, Permᴰ·append-left, Permᴰ·append-right, List·Permᴰ·append-comm}
+use mathlib.Core.List.{Permᴰ·refl, Permᴰ·symm, Permᴰ·map, Permᴰ·middle, Permᴰ·append-nil, Permᴰ·append-left, Permᴰ·append-right, List·Permᴰ·append-comm}
 use mathlib.Core.Option.{Option, none, some}
 use mathlib.Core.Logic.{inl, inr}
 use mathlib.Core.Path.{_≡_, refl, sym, ap, _∙_}
 use native.Mathlib.Omega.{arith}
 use lib.ListN.{length, length-map}
-use Rattle.rules.specs.Lists.{keep, sortBy}
+use Rattle.rules.specs.Lists.{All, keep, sortBy}
 use Rattle.rules.specs.Piece.{Event, isOn, isOff}
 use Rattle.rules.specs.RawNotes.{NoteEvent, noteEvent, noteEvents, RawNote, rawNote, Pairing, sameKey, withoutOldest, takeOff, takeOn, pairOne, noPairs}
 use Rattle.rules.specs.RawNotes.{pairing, byChannel, byStart, rawNotesOf, rawNotes, lastTick}
 use Rattle.laws.specs.Notes.{Onset, noteOnset, onOnset, onsOf, OneNoteEach, HasNotes}
 use Rattle.laws.specs.Orders.{SameUpToOrder}
 use Rattle.laws.proofs.Order.{by-bool}
-use Rattle.laws.proofs.Lists.{All-all, any-kept, empty-same}
-use Rattle.laws.proofs.Orders.{last-first, sort-order, order-length}
+use Rattle.laws.proofs.Lists.{All-all, All-left, All-unmap, any-kept, empty-same}
+use Rattle.laws.proofs.Orders.{last-first, sort-order, order-length, All-order}
 use Rattle.laws.proofs.Tests.{fuse, keep-same}
 
-abbrev startOnset : NoteEvent → Onset
+abbrev pub startOnset : NoteEvent → Onset
 startOnset s = record { start = s .tick; key = s .key; channel = s .channel }
 
 -- an off takes the oldest start of its key, and just that
@@ -91,10 +91,20 @@ notes-hold ns last =
     (List·Permᴰ·trans (Permᴰ·append-left (map noteOnset (x .closed)) (Permᴰ·map startOnset (sort-order byChannel (x .pending))))
     (List·Permᴰ·append-comm (map noteOnset (x .closed)) (map startOnset (x .pending))))
 
+track-holds : (es : List Event) → SameUpToOrder (held (pairing (noteEvents es))) (map onOnset (onsOf es))
+track-holds es =
+    List·Permᴰ·trans (rw (track-ons es) at (pairs-hold noPairs (noteEvents es))) (Permᴰ·append-nil (map onOnset (onsOf es)))
+
 pub one-note-each : OneNoteEach
-one-note-each es =
-    List·Permᴰ·trans (notes-hold (noteEvents es) (lastTick es))
-    (List·Permᴰ·trans (rw (track-ons es) at (pairs-hold noPairs (noteEvents es))) (Permᴰ·append-nil (map onOnset (onsOf es))))
+one-note-each es = List·Permᴰ·trans (notes-hold (noteEvents es) (lastTick es)) (track-holds es)
+
+-- what all ons have when they begin, the starts still pending have
+pub pending-begin : (Q : Onset → Type 0) (es : List Event) → All Q (map onOnset (onsOf es))
+    → All (λ s. Q (startOnset s)) (pairing (noteEvents es) .pending)
+pending-begin Q es h =
+    let x = pairing (noteEvents es) in
+    All-unmap Q startOnset (x .pending)
+    (All-left Q (map startOnset (x .pending)) (map noteOnset (x .closed)) (All-order Q (Permᴰ·symm (track-holds es)) h))
 
 -- so the notes are as many as the ons
 pub one-note-count : (es : List Event) → length (rawNotes es) ≡ length (onsOf es)

@@ -4,11 +4,11 @@ use mathlib.Core.Bool.{Bool}
 use mathlib.Core.List.{List, [], _∷_, _++_, List·Permᴰ·nil, List·Permᴰ·cons, List·Permᴰ·swap, List·Permᴰ·trans}
 use mathlib.Core.List.{Permᴰ·refl, Permᴰ·middle, Permᴰ·append-nil}
 use mathlib.Core.Logic.{inl, inr}
-use mathlib.Core.Path.{_≡_, refl, _∙_}
+use mathlib.Core.Path.{_≡_, refl, _∙_, subst}
 use native.Mathlib.Omega.{arith}
 use lib.Dec.{leb}
 use lib.ListN.{length}
-use Rattle.rules.specs.Lists.{insert, sortBy}
+use Rattle.rules.specs.Lists.{insert, sortBy, largest, All}
 use Rattle.laws.specs.Orders.{SameUpToOrder}
 use Rattle.laws.proofs.Order.{by-bool}
 use Rattle.laws.proofs.Tests.{tally}
@@ -50,3 +50,16 @@ module _ {A : Type 0} where
   order-tally g (List·Permᴰ·cons e d) = rw e (omega (arith, order-tally g d))
   order-tally g (List·Permᴰ·swap e₁ e₂) = rw (e₁, e₂) (omega arith)
   order-tally g (List·Permᴰ·trans d₁ d₂) = order-tally g d₁ ∙ order-tally g d₂
+
+  -- what all elements have
+  pub All-order : (P : A → Type 0) {xs ys : List A} → SameUpToOrder xs ys → All P xs → All P ys
+  All-order P List·Permᴰ·nil h = h
+  All-order P (List·Permᴰ·cons e d) h = (subst P e (h .0), All-order P d (h .1))
+  All-order P (List·Permᴰ·swap e₁ e₂) h = (subst P e₂ (h .1 .0), (subst P e₁ (h .0), h .1 .1))
+  All-order P (List·Permᴰ·trans d₁ d₂) h = All-order P d₂ (All-order P d₁ h)
+
+pub order-largest : {xs ys : List ℕ} → SameUpToOrder xs ys → largest xs ≡ largest ys
+order-largest List·Permᴰ·nil = refl
+order-largest (List·Permᴰ·cons e d) = rw e (omega (arith, order-largest d))
+order-largest (List·Permᴰ·swap e₁ e₂) = rw (e₁, e₂) (omega arith)
+order-largest (List·Permᴰ·trans d₁ d₂) = order-largest d₁ ∙ order-largest d₂

@@ -1,6 +1,7 @@
 pub mod Admitted
 pub mod Claims
 pub mod Exact
+pub mod HashOrder
 pub mod Ladder
 pub mod Lines
 pub mod NoteWords
