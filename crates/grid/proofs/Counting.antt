@@ -10,7 +10,7 @@ use Rattle.rules.specs.Grid.{sixteenth, isOffGrid, offCount, grid}
 use Rattle.rules.specs.Piece.{Event, isOn}
 use Rattle.rules.specs.RawNotes.{rawNotes}
 use Rattle.rules.specs.Refusals.{largestDelta}
-use Rattle.laws.proofs.Notes.{one-note-each}
+use Rattle.laws.proofs.Notes.{one-note-count}
 use Rattle.laws.proofs.Lists.{All-get}
 use Rattle.track_events.specs.Track.{Track, eventsOf, left}
 use Rattle.track_events.proofs.Tracks.{left-cons, left-none}
@@ -42,7 +42,7 @@ counting-start p ds ws =
       within = omega arith;
       tick = omega arith;
       few = (omega arith, omega arith);
-      ons = omega (arith, one-note-each es, tally-keeps starts es);
+      ons = omega (arith, one-note-count es, tally-keeps starts es);
       offs = omega (arith, start-counts (isOffGrid p) es, tally-keeps (startsOff p) es);
     }
 

@@ -52,6 +52,24 @@ module _ {A : Type 0} where
     Some-changed P c (x ∷ xs) e =
         elim (by-bool (f x)) [ inl t ↦ rw t (here (c x t)) | inr t ↦ rw t (later (Some-changed P c xs (rw t at e))) ]
 
+  -- where the change keeps what passes, some pass as before
+  pub any-change : (f : A → Bool) (g : A → A) → ((x : A) → f (g x) ≡ f x) → (xs : List A) → any f (changeFirst f g xs) ≡ any f xs
+  unfolding any changeFirst
+  any-change f g stays [] = refl
+  any-change f g stays (x ∷ xs) =
+      elim (by-bool (f x)) [ inl t ↦ rw t (rw (stays x, t)) | inr t ↦ rw t (rw (t, any-change f g stays xs)) ]
+
+  -- two such changes in either order
+  pub change-both : (f : A → Bool) (g h : A → A) → ((x : A) → f (g x) ≡ f x) → ((x : A) → f (h x) ≡ f x) → ((x : A) → h (g x) ≡ g (h x))
+      → (xs : List A) → changeFirst f h (changeFirst f g xs) ≡ changeFirst f g (changeFirst f h xs)
+  unfolding changeFirst
+  change-both f g h stays keeps swaps [] = refl
+  change-both f g h stays keeps swaps (x ∷ xs) =
+      elim (by-bool (f x)) [
+        | inl t ↦ rw t (rw (stays x, keeps x, t, swaps x))
+        | inr t ↦ rw t (rw (t, change-both f g h stays keeps swaps xs))
+      ]
+
   -- ---- falling lists
 
   module _ (f : A → ℕ) where

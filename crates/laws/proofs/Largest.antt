@@ -1,12 +1,10 @@
 -- The largest of a list, which does not depend on its order, and the larger of several numbers.
 use Prim.Native.Nat.{ℕ, max}
-use mathlib.Core.List.{List, [], _∷_, _++_, map, map-append}
-use mathlib.Core.Logic.{inl, inr}
-use mathlib.Core.Path.{_≡_, refl, _∙_}
+use mathlib.Core.List.{List, [], _∷_, _++_, map, map-append, Permᴰ·map}
+use mathlib.Core.Path.{_≡_}
 use native.Mathlib.Omega.{arith}
-use lib.Dec.{leb}
-use Rattle.rules.specs.Lists.{insert, sortBy, largest}
-use Rattle.laws.proofs.Order.{by-bool}
+use Rattle.rules.specs.Lists.{sortBy, largest}
+use Rattle.laws.proofs.Orders.{sort-order, order-largest}
 
 pub largest-append : (xs ys : List ℕ) → largest (xs ++ ys) ≡ max (largest xs) (largest ys)
 largest-append [] ys = omega arith
@@ -16,17 +14,8 @@ module _ {A : Type 0} (g : A → ℕ) where
   pub largest-map-append : (xs ys : List A) → largest (map g (xs ++ ys)) ≡ max (largest (map g xs)) (largest (map g ys))
   largest-map-append xs ys = rw (map-append g xs ys) (largest-append (map g xs) (map g ys))
 
-  module _ (f : A → ℕ) where
-    largest-insert : (x : A) (ys : List A) → largest (map g (insert f x ys)) ≡ max (g x) (largest (map g ys))
-    unfolding insert
-    largest-insert x [] = refl
-    largest-insert x (y ∷ ys) =
-        elim (by-bool (leb (f x) (f y))) [ inl t ↦ rw t | inr t ↦ rw t (omega (arith, largest-insert x ys)) ]
-
-    pub largest-sort : (xs : List A) → largest (map g (sortBy f xs)) ≡ largest (map g xs)
-    unfolding sortBy
-    largest-sort [] = refl
-    largest-sort (x ∷ xs) = largest-insert x (sortBy f xs) ∙ omega (arith, largest-sort xs)
+  pub largest-sort : (f : A → ℕ) (xs : List A) → largest (map g (sortBy f xs)) ≡ largest (map g xs)
+  largest-sort f xs = order-largest (Permᴰ·map g (sort-order f xs))
 
 -- ---- the larger of several
 

@@ -5,6 +5,7 @@ pub mod Exact
 pub mod Filling
 pub mod Folds
 pub mod Grid
+pub mod HashOrder
 pub mod KeyBits
 pub mod Largest
 pub mod Lists
@@ -12,6 +13,7 @@ pub mod Loops
 pub mod NoteRanges
 pub mod Notes
 pub mod Order
+pub mod Orders
 pub mod Parts
 pub mod Places
 pub mod Reflection
@@ -19,6 +21,7 @@ pub mod Refusals
 pub mod Sort
 pub mod Splits
 pub mod Standards
+pub mod Swaps
 pub mod Tests
 pub mod Values
 pub mod Verdict

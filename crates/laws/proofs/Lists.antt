@@ -167,6 +167,10 @@ module _ {A B : Type 0} where
   empty-same (x ∷ xs) [] h = absurd (omega arith)
   empty-same (x ∷ xs) (y ∷ ys) h = refl
 
+  pub All-unmap : (Q : B → Type 0) (f : A → B) (xs : List A) → All Q (map f xs) → All (λ x. Q (f x)) xs
+  All-unmap Q f [] h = tt
+  All-unmap Q f (x ∷ xs) h = (h .0, All-unmap Q f xs (h .1))
+
   module _ {P : A → Type 0} (Q : B → Type 0) where
     pub All-map : (f : A → B) → ((x : A) → P x → Q (f x)) → (xs : List A) → All P xs → All Q (map f xs)
     All-map f h [] k = tt

@@ -9,10 +9,9 @@ use native.Mathlib.Omega.{arith}
 use borrow.Author.Count as count
 use lib.Dec.{eqb}
 use lib.ListN.{length, getD}
-use Rattle.rules.specs.Lists.{All, keep, any, every, below, position, flag, lastOr, sortBy}
+use Rattle.rules.specs.Lists.{All, keep, any, every, below, position, flag, lastOr}
 use Rattle.laws.proofs.Lists.{All-imp, keep-none, keep-append}
 use Rattle.laws.proofs.Order.{by-bool, by-eq}
-use Rattle.laws.proofs.Sort.{keep-sort, length-sort}
 
 module _ {A : Type 0} where
   -- ---- members
@@ -98,24 +97,12 @@ module _ {A : Type 0} where
     tally-keeps (x ∷ xs) =
         let more = tally-keeps xs in elim (by-bool (g x)) [ inl t ↦ rw t (omega arith) | inr t ↦ rw t (omega arith) ]
 
-    pub tally-append : (xs ys : List A) → tally g (xs ++ ys) ≡ tally g xs + tally g ys
-    unfolding tally
-    tally-append [] ys = omega arith
-    tally-append (x ∷ xs) ys = omega (arith, tally-append xs ys)
-
-    pub tally-sort : (f : A → ℕ) (xs : List A) → tally g (sortBy f xs) ≡ tally g xs
-    tally-sort f xs =
-        sym (tally-keeps (sortBy f xs)) ∙ ap length (keep-sort f g xs) ∙ length-sort f (keep g xs) ∙ tally-keeps xs
-
-    -- those that a weaker test keeps
-    pub tally-kept : (h : A → Bool) → ((x : A) → h x ≡ false → g x ≡ false) → (xs : List A) → tally g (keep h xs) ≡ tally g xs
+    -- those that pass of those that a test keeps
+    pub tally-kept : (h : A → Bool) (xs : List A) → tally g (keep h xs) ≡ tally (λ x. h x && g x) xs
     unfolding tally keep
-    tally-kept h weaker [] = refl
-    tally-kept h weaker (x ∷ xs) =
-        elim (by-bool (h x)) [
-          | inl t ↦ rw t (ap (λ (n : ℕ). flag (g x) + n) (tally-kept h weaker xs))
-          | inr t ↦ rw (t, weaker x t) (omega (arith, tally-kept h weaker xs))
-        ]
+    tally-kept h [] = refl
+    tally-kept h (x ∷ xs) =
+        elim (by-bool (h x)) [ inl t ↦ rw t (omega (arith, tally-kept h xs)) | inr t ↦ rw t (omega (arith, tally-kept h xs)) ]
 
 pub tally-map : {A B : Type 0} (g : B → Bool) (f : A → B) (xs : List A) → tally g (map f xs) ≡ tally (λ x. g (f x)) xs
 unfolding tally
@@ -242,7 +229,7 @@ module _ {A C B : Type 0} (kind : A → Bool) (make : A → C) (to : C → B) wh
   latest test d xs = lastOr d (map to (keep test (map make (keep kind xs))))
 
   -- the two tests as one
-  fuse : (test : C → Bool) (xs : List A)
+  pub fuse : (test : C → Bool) (xs : List A)
       → map to (keep test (map make (keep kind xs))) ≡ map (λ x. to (make x)) (keep (λ x. kind x && test (make x)) xs)
   unfolding keep
   fuse test [] = refl

@@ -1,10 +1,12 @@
 pub mod Admitted
 pub mod Claims
 pub mod Exact
+pub mod HashOrder
 pub mod Ladder
 pub mod Lines
 pub mod NoteWords
 pub mod Notes
+pub mod Orders
 pub mod Parts
 pub mod Places
 pub mod Says
