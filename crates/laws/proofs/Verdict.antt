@@ -1,5 +1,6 @@
 -- The proof-reader's verdict, point by point: each test says its fact, and yes says that the staff is right.
 use Prim.Native.Nat.{ℕ, _*_, _%_, _∣_}
+use mathlib.Core.Bool.{false, false≢true}
 use mathlib.Core.List.{List, [], _∷_, map}
 use mathlib.Core.Option.{Option, none, some}
 use lib.Dec.{eqb}
@@ -12,11 +13,11 @@ use Rattle.rules.specs.Grid.{grid, snapped}
 use Rattle.rules.specs.Values.{isWhole, smallest}
 use Rattle.rules.specs.Items.{Item, Staff, StaffArrays, headLimit, readStaff}
 use Rattle.rules.specs.ProofReader.{StaffValue, Values, Fill, EmptyOrFill, Full, Clean, AllClean, Meets, FreeAt, Tied, Ties, NoteFound, KeysMeant, EndsWithNote}
-use Rattle.rules.specs.ProofReader.{EndsMeant, Right, Shaped, Timed, Tie, Played, itemTicks, voiceItems, voiceTimed, voiceNumbers, played, tieAfter}
+use Rattle.rules.specs.ProofReader.{EndsMeant, Right, Shaped, WellFormed, Timed, Tie, Played, itemTicks, voiceItems, voiceTimed, voiceNumbers, played, tieAfter}
 use Rattle.rules.specs.ProofReaderTests.{staffValue?, values?, fill?, emptyOrFill?, full?, clean?, allClean?, meets?, freeAt?, tied?}
 use Rattle.rules.specs.ProofReaderTests.{ties?, noteFound?, keysMeant?, endsWithNote?, endsMeant?, right?, shaped?, verdictOn, even?}
 use Rattle.laws.specs.Says.{Says}
-use Rattle.laws.specs.Claims.{YesExactly}
+use Rattle.laws.specs.Claims.{YesExactly, FormedExactly}
 use Rattle.laws.proofs.Reflection.{says-flag, says-true, says-eq, says-lt, says-le, says-beq, says-not, says-and, says-or, says-imp}
 use Rattle.laws.proofs.Reflection.{says-cond, says-as, says-and3, says-or3, says-and4, says-every, says-any, says-below}
 
@@ -39,10 +40,14 @@ pub says-empty-or-fill : (p : ℕ) (b : Bar) (is : List Item) → Says (emptyOrF
 says-empty-or-fill p b [] = says-true
 says-empty-or-fill p b (i ∷ is) = says-fill p b (i ∷ is)
 
+says-false : Says false ⊥
+says-false = (false≢true, λ x. absurd x)
+
 pub says-full : (p : ℕ) (bs : List Bar) (st : Staff) → Says (full? p bs st) (Full p bs st)
 unfolding full?
-says-full p [] st = says-true
-says-full p (b ∷ bs) [] = says-true
+says-full p [] [] = says-true
+says-full p [] (bar ∷ st) = says-false
+says-full p (b ∷ bs) [] = says-false
 says-full p (b ∷ bs) (bar ∷ st) =
     says-and3 (says-fill p b (voiceItems 0 bar)) (says-every (says-empty-or-fill p b) bar) (says-full p bs st)
 
@@ -153,13 +158,38 @@ says-shaped bs s =
 
 -- the verdict on a given grid
 pub says-verdict-on : (p g : ℕ) (notes : List RawNote) (bs : List Bar) (s : StaffArrays)
-    → Says (verdictOn p g notes bs s) (Shaped bs s × Right p g notes bs (readStaff s))
-says-verdict-on p g notes bs s = says-and (says-shaped bs s) (says-right p g notes bs (readStaff s))
+    → Says (verdictOn p g notes bs s) (WellFormed p bs s × Right p g notes bs (readStaff s))
+says-verdict-on p g notes bs s =
+    says-as (says-and (says-shaped bs s) (says-right p g notes bs (readStaff s))) (
+      λ x. (record { shaped = x .0; values = x .1 .values; clean = x .1 .clean; ties = x .1 .ties }, x .1),
+      λ x. (x .0 .shaped, x .1),
+    )
 
 pub yes-exactly : YesExactly
 yes-exactly p notes bs s =
     says-as (says-verdict-on p (grid p notes) notes bs s)
-    (λ x. record { shaped = x .0; right = x .1 }, λ r. (r .shaped, r .right))
+    (λ x. record { formed = x .0; right = x .1 }, λ r. (r .formed, r .right))
+
+-- what is left to ask of a well formed staff
+pub formed-exactly : FormedExactly
+formed-exactly p notes bs s formed =
+    says-as (yes-exactly p notes bs s) (
+      λ r. (r .right .full, r .right .found, r .right .meant, r .right .ends),
+      λ x.
+          record {
+            formed = formed;
+            right =
+                record {
+                  values = formed .values;
+                  full = x .0;
+                  clean = formed .clean;
+                  ties = formed .ties;
+                  found = x .1;
+                  meant = x .2;
+                  ends = x .3;
+                };
+          },
+    )
 
 -- ---- even pieces
 
