@@ -1,8 +1,8 @@
 -- The round trip: a staff's three arrays are well shaped, and reading them gives the staff back.
-use Prim.Native.Nat.{ℕ, suc, _+_, _*_, _%_, _^_, _≤_, _<_}
+use Prim.Native.Nat.{ℕ, _+_, _*_, _%_, _^_, _≤_, _<_}
 use mathlib.Core.Bool.{Bool, true, false}
 use mathlib.Core.List.{List, [], _∷_, _++_, map, flatMap, flatten}
-use mathlib.Core.Path.{_≡_, refl, ap, ap₂}
+use mathlib.Core.Path.{_≡_, refl, ap₂}
 use lib.Dec.{eqb}
 use lib.ListN.{length, length-map}
 use lib.Seq.{take-append-seam, drop-append-seam}
@@ -11,10 +11,10 @@ use Rattle.rules.specs.Lists.{bit, flag, All}
 use Rattle.rules.specs.Bars.{Bar}
 use Rattle.rules.specs.Items.{Item, Staff, headOf, headLimit, lowKeys, highKeys, itemOf, itemsOf, arraysOf, readItems, cutBy, byFours, readStaff}
 use Rattle.rules.specs.RawNotes.{RawNote}
-use Rattle.rules.specs.ProofReader.{Values, Full, Right, Shaped, WellFormed}
+use Rattle.rules.specs.ProofReader.{Values, Right, Shaped, WellFormed}
 use Rattle.rules.specs.ProofReaderTests.{verdictOn}
 use Rattle.laws.proofs.Lists.{All-imp, All-map, All-flatten, by-four, length-flatten, length-flatten-each}
-use Rattle.laws.proofs.Verdict.{says-verdict-on}
+use Rattle.laws.proofs.Verdict.{says-verdict-on, right-bars}
 
 -- an item whose code and dots have room in a head
 abbrev pub Encodable : Item → Type 0
@@ -125,13 +125,6 @@ module _ (st : Staff) (fours : All (λ bar. length bar ≡ 4) st) (small : All (
 pub values-encodable : (p : ℕ) (st : Staff) → Values p st → All (All (All Encodable)) st
 values-encodable p = All-imp (All-imp (All-imp (λ i v. (omega arith, v .dots))))
 
--- bars and staff run out together
-full-length : (p : ℕ) (bs : List Bar) (st : Staff) → Full p bs st → length st ≡ length bs
-full-length p [] [] h = refl
-full-length p [] (bar ∷ st) h = absurd h
-full-length p (b ∷ bs) [] h = absurd h
-full-length p (b ∷ bs) (bar ∷ st) h = ap suc (full-length p bs st (h .2))
-
 module _ (p g : ℕ) (notes : List RawNote) (bs : List Bar) (st : Staff) (fours : All (λ bar. length bar ≡ 4) st) (right : Right p g notes bs st) where
   small : All (All (All Encodable)) st
   small = values-encodable p st (right .values)
@@ -141,7 +134,7 @@ module _ (p g : ℕ) (notes : List RawNote) (bs : List Bar) (st : Staff) (fours 
   formed-written =
       let same : readStaff (arraysOf st) ≡ st = read-written st fours small in
       record {
-        shaped = shaped-written st fours small bs (full-length p bs st (right .full));
+        shaped = shaped-written st fours small bs (right-bars p g notes bs st right);
         values = rw same (right .values);
         clean = rw same (right .clean);
         ties = rw same (right .ties);

@@ -1,8 +1,9 @@
 -- The proof-reader's verdict, point by point: each test says its fact, and yes says that the staff is right.
-use Prim.Native.Nat.{ℕ, _*_, _%_, _∣_}
+use Prim.Native.Nat.{ℕ, suc, _*_, _%_, _∣_}
 use mathlib.Core.Bool.{false, false≢true}
 use mathlib.Core.List.{List, [], _∷_, map}
 use mathlib.Core.Option.{Option, none, some}
+use mathlib.Core.Path.{_≡_, refl, ap}
 use lib.Dec.{eqb}
 use lib.ListN.{length}
 use native.Mathlib.Nat.{dvd-of-mod-eq-zero, mod-eq-zero-of-dvd}
@@ -17,7 +18,7 @@ use Rattle.rules.specs.ProofReader.{EndsMeant, Right, Shaped, WellFormed, Timed
 use Rattle.rules.specs.ProofReaderTests.{staffValue?, values?, fill?, emptyOrFill?, full?, clean?, allClean?, meets?, freeAt?, tied?}
 use Rattle.rules.specs.ProofReaderTests.{ties?, noteFound?, keysMeant?, endsWithNote?, endsMeant?, right?, shaped?, verdictOn, even?}
 use Rattle.laws.specs.Says.{Says}
-use Rattle.laws.specs.Claims.{YesExactly, FormedExactly}
+use Rattle.laws.specs.Claims.{YesExactly, FormedExactly, RightBars}
 use Rattle.laws.proofs.Reflection.{says-flag, says-true, says-eq, says-lt, says-le, says-beq, says-not, says-and, says-or, says-imp}
 use Rattle.laws.proofs.Reflection.{says-cond, says-as, says-and3, says-or3, says-and4, says-every, says-any, says-below}
 
@@ -170,26 +171,34 @@ yes-exactly p notes bs s =
     says-as (says-verdict-on p (grid p notes) notes bs s)
     (λ x. record { formed = x .0; right = x .1 }, λ r. (r .formed, r .right))
 
--- what is left to ask of a well formed staff
 pub formed-exactly : FormedExactly
-formed-exactly p notes bs s formed =
-    says-as (yes-exactly p notes bs s) (
-      λ r. (r .right .full, r .right .found, r .right .meant, r .right .ends),
-      λ x.
-          record {
-            formed = formed;
-            right =
-                record {
-                  values = formed .values;
-                  full = x .0;
-                  clean = formed .clean;
-                  ties = formed .ties;
-                  found = x .1;
-                  meant = x .2;
-                  ends = x .3;
-                };
-          },
-    )
+formed-exactly p notes bs s formed = (
+  λ r. record { full = r .right .full; found = r .right .found; meant = r .right .meant; ends = r .right .ends },
+  λ x.
+      record {
+        formed = formed;
+        right =
+            record {
+              values = formed .values;
+              full = x .full;
+              clean = formed .clean;
+              ties = formed .ties;
+              found = x .found;
+              meant = x .meant;
+              ends = x .ends;
+            };
+      },
+)
+
+-- bars and staff run out together
+full-bars : (p : ℕ) (bs : List Bar) (st : Staff) → Full p bs st → length st ≡ length bs
+full-bars p [] [] h = refl
+full-bars p [] (bar ∷ st) h = absurd h
+full-bars p (b ∷ bs) [] h = absurd h
+full-bars p (b ∷ bs) (bar ∷ st) h = ap suc (full-bars p bs st (h .2))
+
+pub right-bars : RightBars
+right-bars p g notes bs st r = full-bars p bs st (r .full)
 
 -- ---- even pieces
 
