@@ -27,7 +27,7 @@ given-same {a} e = ap (λ (r : Result Bool). elim r [ refused n ↦ a | given c 
 
 -- ---- what the proof-reader says
 
-module _ {x : Piece} {k : ℕ} {s : StaffArrays} {work₀ work₁ : List ℕ} {answer : Result Bool} (h : Passes (proofReadRefusals x k (length work₀)))
+module _ (x : Piece) (k : ℕ) (s : StaffArrays) {work₀ work₁ : List ℕ} {answer : Result Bool} (h : Passes (proofReadRefusals x k (length work₀)))
     (read : Reads x k s work₀ answer work₁) where
   said : answer ≡ given (verdict (ticksPerQuarter x) (partNotes x k) (bars x) s)
   said = read .answered ∙ passes-given (proofReadRefusals x k (length work₀)) _ h
@@ -49,9 +49,9 @@ module _ {x : Piece} {k : ℕ} {s : StaffArrays} {work₀ work₁ : List ℕ} {a
 
 -- ---- what the engraver writes
 
-not-refused : {x : Piece} {k : ℕ} {lent left : StaffArrays} {work₀ work₁ : List ℕ} {answer : Result StaffSize} → Passes (partRefusals x k)
+not-refused : (x : Piece) (k : ℕ) (lent left : StaffArrays) (work₀ work₁ : List ℕ) (answer : Result StaffSize) → Passes (partRefusals x k)
     → workNeeded x ≤ length work₀ → Room (partSize x k) lent → Engraves x k lent work₀ answer left work₁ → answer ≡ given (partSize x k)
-not-refused {x} {k} {lent} {work₀ = work₀} part enough room run =
+not-refused x k lent left work₀ work₁ answer part enough room run =
     run .answered
     ∙ ap (answers (λ (s : StaffArrays). partSize x k))
     (passes-given _ (partArrays x k)
@@ -70,18 +70,20 @@ pub demand-3 : Demand3
 demand-3 =
     record {
       shared-read =
-          λ {x} {y} {k} {j} {s} same h read h′ read′.
-          said h read ∙ ap given (λ i. verdict (same .division i) (same .notes i) (same .bars i) s) ∙ sym (said h′ read′);
+          λ x y k j s work₀ work₁ area₀ area₁ answer other same h read h′ read′.
+          said x k s h read ∙ ap given (λ i. verdict (same .division i) (same .notes i) (same .bars i) s) ∙ sym (said y j s h′ read′);
       shared-written =
-          λ {x} {y} {k} {j} {lent} {left} {lent′} {left′} {work₀} {work₁} {area₀} {area₁} {size} {other} same run run′.
+          λ x y k j lent left lent′ left′ work₀ work₁ area₀ area₁ size other same run run′.
           handed x k run size refl
           ∙ (λ i. arraysOf (engraved (same .division i) (same .notes i) (same .bars i)))
           ∙ sym (handed y j run′ other refl);
-      exactly = λ h read. yes h read;
-      otherwise = λ h read. no h read;
-      formed = λ {x} {k} {s} h read f. Iff·trans (yes h read) (formed-exactly (ticksPerQuarter x) (partNotes x k) (bars x) s f);
+      exactly = λ x k s work₀ work₁ answer h read. yes x k s h read;
+      otherwise = λ x k s work₀ work₁ answer h read. no x k s h read;
+      formed =
+          λ x k s work₀ work₁ answer h read f.
+          Iff·trans (yes x k s h read) (formed-exactly (ticksPerQuarter x) (partNotes x k) (bars x) s f);
       engraves = not-refused;
       engraved =
-          λ {x} {k} {lent} {left} {work₀} {work₁} {area₀} {area₁} {size} run even enough read.
+          λ x k lent left work₀ work₁ area₀ area₁ size answer run even enough read.
           read-is x k run size refl enough read ∙ passes-given (unevenPart (partEven x k) ∷ []) true (rw even (refl, tt));
     }

@@ -67,36 +67,31 @@ pub record Room (size : StaffSize) (lent : StaffArrays) : Type 0 where
 
 pub record Demand3 : Type 0 where
   -- Two parties that share only one part's raw notes, the division and the bars: nothing else decides the answer, or what is written.
-  pub shared-read : {x y : Piece} {k j : ℕ} {s : StaffArrays} {work₀ work₁ area₀ area₁ : List ℕ} {answer other : Result Bool} → Shares x k y j
+  pub shared-read : (x y : Piece) (k j : ℕ) (s : StaffArrays) (work₀ work₁ area₀ area₁ : List ℕ) (answer other : Result Bool) → Shares x k y j
       → Passes (proofReadRefusals x k (length work₀)) → Reads x k s work₀ answer work₁
       → Passes (proofReadRefusals y j (length area₀)) → Reads y j s area₀ other area₁
       → answer ≡ other
-  pub shared-written : {x y : Piece} {k j : ℕ} {lent left lent′ left′ : StaffArrays} {work₀ work₁ area₀ area₁ : List ℕ} {size other : StaffSize}
+  pub shared-written : (x y : Piece) (k j : ℕ) (lent left lent′ left′ : StaffArrays) (work₀ work₁ area₀ area₁ : List ℕ) (size other : StaffSize)
       → Shares x k y j → Engraves x k lent work₀ (given size) left work₁ → Engraves y j lent′ area₀ (given other) left′ area₁
       → used size left ≡ used other left′
-
   -- The proof-reader says yes exactly when the staff is well formed and right, for every piece, part, staff and work area that the numbers let pass ..
-  pub exactly : {x : Piece} {k : ℕ} {s : StaffArrays} {work₀ work₁ : List ℕ} {answer : Result Bool}
+  pub exactly : (x : Piece) (k : ℕ) (s : StaffArrays) (work₀ work₁ : List ℕ) (answer : Result Bool)
       → Passes (proofReadRefusals x k (length work₀)) → Reads x k s work₀ answer work₁
       → (answer ≡ given true) ↔ RightFor x k s
-
   -- .. otherwise it says no,
-  pub otherwise : {x : Piece} {k : ℕ} {s : StaffArrays} {work₀ work₁ : List ℕ} {answer : Result Bool}
+  pub otherwise : (x : Piece) (k : ℕ) (s : StaffArrays) (work₀ work₁ : List ℕ) (answer : Result Bool)
       → Passes (proofReadRefusals x k (length work₀)) → Reads x k s work₀ answer work₁
       → (answer ≡ given false) ↔ (RightFor x k s → ⊥)
-
   -- and of a well formed staff it asks full bars and the points on the raw notes, no more.
-  pub formed : {x : Piece} {k : ℕ} {s : StaffArrays} {work₀ work₁ : List ℕ} {answer : Result Bool}
+  pub formed : (x : Piece) (k : ℕ) (s : StaffArrays) (work₀ work₁ : List ℕ) (answer : Result Bool)
       → Passes (proofReadRefusals x k (length work₀)) → Reads x k s work₀ answer work₁
       → FormedFor x s → (answer ≡ given true) ↔ PlaysFor x k s
-
   -- The engraver writes a staff for every part that the numbers let pass, where outputs and work area have room ..
-  pub engraves : {x : Piece} {k : ℕ} {lent left : StaffArrays} {work₀ work₁ : List ℕ} {answer : Result StaffSize}
+  pub engraves : (x : Piece) (k : ℕ) (lent left : StaffArrays) (work₀ work₁ : List ℕ) (answer : Result StaffSize)
       → Passes (partRefusals x k) → workNeeded x ≤ length work₀ → Room (partSize x k) lent → Engraves x k lent work₀ answer left work₁
       → answer ≡ given (partSize x k)
-
   -- .. and the proof-reader says yes to every staff that it writes, unused space left off, where the part is even.
-  pub engraved : {x : Piece} {k : ℕ} {lent left : StaffArrays} {work₀ work₁ area₀ area₁ : List ℕ} {size : StaffSize} {answer : Result Bool}
+  pub engraved : (x : Piece) (k : ℕ) (lent left : StaffArrays) (work₀ work₁ area₀ area₁ : List ℕ) (size : StaffSize) (answer : Result Bool)
       → Engraves x k lent work₀ (given size) left work₁
       → partEven x k ≡ true → workNeeded x ≤ length area₀ → Reads x k (used size left) area₀ answer area₁
       → answer ≡ given true
