@@ -3,9 +3,9 @@ use Prim.Native.Nat.{ℕ, _*_, _≤_}
 use mathlib.Core.Bool.{Bool, true, false, true≢false, false≢true}
 use mathlib.Core.List.{List, [], _∷_, _++_}
 use mathlib.Core.Logic.{inl, inr}
-use mathlib.Core.Path.{_≡_, sym, ap, _∙_}
+use mathlib.Core.Path.{_≡_, refl, sym, ap, _∙_}
 use native.Mathlib.Omega.{arith}
-use borrow.Author.Tests.{ltb-false}
+use borrow.Author.Tests.{ltb-false, le-ltb}
 use lib.ListN.{length, take, drop, replicate, length-map, length-replicate}
 use lib.Seq.{take-at}
 use Rattle.rules.specs.Lists.{written}
@@ -15,9 +15,10 @@ use Rattle.rules.specs.Grid.{grid}
 use Rattle.rules.specs.Items.{StaffArrays, headOf, itemsOf}
 use Rattle.rules.specs.Voices.{voices}
 use Rattle.rules.specs.Staff.{partStaff}
-use Rattle.rules.specs.Refusals.{Result, refused, given, Refusal, unless, answers, writes, partRefusals, shortWork, shortOutput, asItIs}
-use Rattle.rules.specs.Calls.{StaffSize, partTrack, partNotes, partSize, partArrays, engraveCall}
-use Rattle.rules.specs.Calls.{EngraveCalled, proofReadRefusals, proofReadCall, ProofReadCalled}
+use Rattle.rules.specs.Refusals.{Result, refused, given, Refusal, unless, answers, writes, partRefusals, shortWork, shortOutput, unevenPart}
+use Rattle.rules.specs.Refusals.{asItIs, workNeeded}
+use Rattle.rules.specs.Calls.{StaffSize, partTrack, partNotes, partSize, partArrays, partEven, engraveCall}
+use Rattle.rules.specs.Calls.{EngraveCalled, proofReadCall, ProofReadCalled}
 use Rattle.laws.specs.Admitted.{Passes}
 use Rattle.laws.proofs.Lists.{All-left, All-right}
 use Rattle.laws.proofs.Order.{by-bool}
@@ -25,8 +26,9 @@ use Rattle.laws.proofs.Refusals.{passes-append, passes-given}
 use Rattle.laws.proofs.VoiceLaws.{voices-four}
 use Rattle.items.proofs.Appending.{keys-length}
 use Rattle.staff.proofs.StaffSizes.{counts-length}
-use Rattle.agreement.specs.Together.{engraveRefusals, togetherCall, Together}
 use Rattle.playback.proofs.Demand.{engraved-yes}
+use Rattle.agreement.specs.Together.{Together}
+use Rattle.agreement.specs.Demand.{used}
 
 -- ---- refused or given
 
@@ -38,15 +40,11 @@ valueOr : {A : Type 0} → A → Result A → A
 valueOr d (refused n) = d
 valueOr d (given a) = a
 
-module _ {A B C : Type 0} (f : A → B) (a : A) (b : C) (ss : List Refusal) where
-  -- a call that answers a number gives it before anything that is asked later
-  refused-first : (rs : List Refusal) (n : ℕ) → refused n ≡ answers f (unless rs a) → refused n ≡ unless (rs ++ ss) b
-  unfolding unless isGiven
-  refused-first [] n h = absurd (false≢true (ap isGiven h))
-  refused-first (r ∷ rs) n h = elim (by-bool (r .applies)) [ inl t ↦ rw t (numbered (rw t at h)) | inr t ↦ rw t (refused-first rs n (rw t at h)) ]
-    where
-      numbered : {m : ℕ} → _≡_ {A = Result B} (refused n) (refused m) → _≡_ {A = Result C} (refused n) (refused m)
-      numbered e = ap (λ (x : Result B). elim x [ refused k ↦ refused k | given c ↦ refused n ]) e
+-- what is answered of a refused call is its number, whatever else would be told
+refused-both : {A B C : Type 0} (f : A → B) (g : A → C) (r : Result A) (n : ℕ) → refused n ≡ answers f r → refused n ≡ answers g r
+unfolding isGiven
+refused-both {B = B} f g (refused m) n h = ap (λ (x : Result B). elim x [ refused k ↦ refused k | given c ↦ refused n ]) h
+refused-both f g (given a) n h = absurd (false≢true (ap isGiven h))
 
 module _ {A B : Type 0} (f : A → B) (a : A) where
   -- a call that answers a value refused nothing
@@ -59,20 +57,46 @@ module _ {A B : Type 0} (f : A → B) (a : A) where
         | inr t ↦ let (p, e) = given-passes rs s (rw t at h) in ((t, p), e)
       ]
 
--- ---- a part
+-- with 9 alone left to ask, a refusal is number 9
+only-nine : (even : Bool) {n : ℕ} → refused n ≡ unless (unevenPart even ∷ []) true → refused 9 ≡ unless (unevenPart even ∷ []) true
+unfolding unless isGiven
+only-nine true h = absurd (false≢true (ap isGiven h))
+only-nine false h = refl
+
+-- ---- a part's arrays are as long as its size says
+
+module _ (x : Piece) (k : ℕ) where
+  pub counts-used : 4 * partSize x k .bars ≡ length (partArrays x k .counts)
+  counts-used = sym (counts-length (ticksPerQuarter x) (voices (grid (ticksPerQuarter x) (partNotes x k)) (partNotes x k)) (voices-four _ _) (bars x))
+
+  pub heads-used : partSize x k .items ≡ length (partArrays x k .heads)
+  heads-used = sym (length-map (itemsOf (partStaff x (partTrack x k))) headOf)
+
+  pub keys-used : 2 * partSize x k .items ≡ length (partArrays x k .keys)
+  keys-used = sym (keys-length (itemsOf (partStaff x (partTrack x k))))
+
+  -- 9 alone is left of the proof-reader's numbers where the others let the part pass
+  pub nine-left : (work : ℕ) → Passes (partRefusals x k) → workNeeded x ≤ work → proofReadCall x k (partArrays x k) work ≡ unless (unevenPart (partEven x k) ∷ []) true
+  nine-left work part enough =
+      engraved-yes x k work
+      ∙ passes-append (partRefusals x k) _ true part
+      ∙ passes-append (shortWork x work ∷ []) _ true (le-ltb work (workNeeded x) enough, tt)
+
+-- the front of an output that was written
+front : (xs l l₁ : List ℕ) (n : ℕ) → n ≡ length xs → l₁ ≡ written xs l → take n l₁ ≡ xs
+front xs l l₁ n e w = rw w (take-at xs (drop (length xs) l) n (sym e))
+
+-- ---- a run of engraving
 
 module _ (x : Piece) (k : ℕ) {counts₀ heads₀ keys₀ work₀ counts₁ heads₁ keys₁ work₁ : List ℕ} {answer : Result StaffSize}
     (engraved : EngraveCalled asItIs (partSize x k) (engraveCall x k (length counts₀) (length heads₀) (length keys₀) (length work₀))
     counts₀ heads₀ keys₀ work₀ answer counts₁ heads₁ keys₁ work₁)
   where
-    abbrev refusals : List Refusal
-    refusals = engraveRefusals x k (length counts₀) (length heads₀) (length keys₀) (length work₀)
-
     -- the number of an engraving that is refused
     pub engraving-refused : (n : ℕ) → refused n ≡ answer → Together x k counts₀ heads₀ keys₀ work₀ (refused n) counts₁ heads₁ keys₁ work₁
     engraving-refused n h =
         record {
-          answered = refused-first (λ (s : StaffArrays). partSize x k) (partArrays x k) true _ refusals n (h ∙ engraved .answered);
+          answered = refused-both _ _ (engraveCall x k (length counts₀) (length heads₀) (length keys₀) (length work₀)) n (h ∙ engraved .answered);
           counts = engraved .counts;
           heads = engraved .heads;
           keys = engraved .keys;
@@ -80,78 +104,86 @@ module _ (x : Piece) (k : ℕ) {counts₀ heads₀ keys₀ work₀ counts₁ hea
         }
 
     module _ (s : StaffSize) (h : given s ≡ answer) where
-      passed : Passes refusals × (s ≡ partSize x k)
-      passed = given-passes (λ (s : StaffArrays). partSize x k) (partArrays x k) refusals s (h ∙ engraved .answered)
+      abbrev short : List Refusal
+      short =
+          shortWork x (length work₀)
+          ∷ shortOutput (length counts₀) (partArrays x k .counts)
+          ∷ shortOutput (length heads₀) (partArrays x k .heads)
+          ∷ shortOutput (length keys₀) (partArrays x k .keys)
+          ∷ []
+
+      passed : Passes (partRefusals x k ++ short) × (s ≡ partSize x k)
+      passed = given-passes (λ (s : StaffArrays). partSize x k) (partArrays x k) (partRefusals x k ++ short) s (h ∙ engraved .answered)
+
+      pub part-passes : Passes (partRefusals x k)
+      part-passes = All-left _ (partRefusals x k) short (passed .0)
+
+      rooms : Passes short
+      rooms = All-right _ (partRefusals x k) short (passed .0)
 
       engraves : engraveCall x k (length counts₀) (length heads₀) (length keys₀) (length work₀) ≡ given (partArrays x k)
-      engraves = passes-given refusals (partArrays x k) (passed .0)
-
-      rooms : Passes
-          (shortWork x (length work₀) ∷ shortOutput (length counts₀) (partArrays x k .counts) ∷ shortOutput (length heads₀) (partArrays x k .heads)
-          ∷ shortOutput (length keys₀) (partArrays x k .keys) ∷ [])
-      rooms = All-right _ (partRefusals x k) _ (passed .0)
-
-      -- the arrays are as long as the size says, and there is room for them
-      counts-used : 4 * s .bars ≡ length (partArrays x k .counts)
-      counts-used =
-          ap (λ (z : StaffSize). 4 * z .bars) (passed .1)
-          ∙ sym (counts-length (ticksPerQuarter x) (voices (grid (ticksPerQuarter x) (partNotes x k)) (partNotes x k)) (voices-four _ _) (bars x))
-
-      heads-used : s .items ≡ length (partArrays x k .heads)
-      heads-used = ap (λ (z : StaffSize). z .items) (passed .1) ∙ sym (length-map (itemsOf (partStaff x (partTrack x k))) headOf)
-
-      keys-used : 2 * s .items ≡ length (partArrays x k .keys)
-      keys-used = ap (λ (z : StaffSize). 2 * z .items) (passed .1) ∙ sym (keys-length (itemsOf (partStaff x (partTrack x k))))
+      engraves = passes-given (partRefusals x k ++ short) (partArrays x k) (passed .0)
 
       pub counts-fit : 4 * s .bars ≤ length counts₀
-      counts-fit = omega (arith, counts-used, ltb-false (length counts₀) (length (partArrays x k .counts)) (rooms .1 .0))
+      counts-fit = rw (passed .1) (omega (arith, counts-used x k, ltb-false (length counts₀) (length (partArrays x k .counts)) (rooms .1 .0)))
 
       pub heads-fit : s .items ≤ length heads₀
-      heads-fit = omega (arith, heads-used, ltb-false (length heads₀) (length (partArrays x k .heads)) (rooms .1 .1 .0))
+      heads-fit = rw (passed .1) (omega (arith, heads-used x k, ltb-false (length heads₀) (length (partArrays x k .heads)) (rooms .1 .1 .0)))
 
       pub keys-fit : 2 * s .items ≤ length keys₀
-      keys-fit = omega (arith, keys-used, ltb-false (length keys₀) (length (partArrays x k .keys)) (rooms .1 .1 .1 .0))
+      keys-fit = rw (passed .1) (omega (arith, keys-used x k, ltb-false (length keys₀) (length (partArrays x k .keys)) (rooms .1 .1 .1 .0)))
 
-      -- the front of an output that was written
-      front : (xs l l₁ : List ℕ) (n : ℕ) → n ≡ length xs → l₁ ≡ written xs l → take n l₁ ≡ xs
-      front xs l l₁ n e w = rw w (take-at xs (drop (length xs) l) n (sym e))
-
-      handed : record { counts = take (4 * s .bars) counts₁; heads = take (s .items) heads₁; keys = take (2 * s .items) keys₁ } ≡ partArrays x k
-      handed i =
+      -- what is handed over is the part's staff
+      pub handed : used s (record { counts = counts₁; heads = heads₁; keys = keys₁ }) ≡ partArrays x k
+      handed =
           let r = engraves in
+          rw (passed .1)
+          (λ i.
           record {
             counts =
-                front (partArrays x k .counts) counts₀ counts₁ _ counts-used
+                front (partArrays x k .counts) counts₀ counts₁ _ (counts-used x k)
                 (engraved .counts ∙ ap (λ o. written (writes (λ (s : StaffArrays). s .counts) o) counts₀) r) i;
             heads =
-                front (partArrays x k .heads) heads₀ heads₁ _ heads-used
+                front (partArrays x k .heads) heads₀ heads₁ _ (heads-used x k)
                 (engraved .heads ∙ ap (λ o. written (writes (λ (s : StaffArrays). s .heads) o) heads₀) r) i;
             keys =
-                front (partArrays x k .keys) keys₀ keys₁ _ keys-used (engraved .keys ∙ ap (λ o. written (writes (λ (s : StaffArrays). s .keys) o) keys₀) r)
-                i;
-          }
+                front (partArrays x k .keys) keys₀ keys₁ _ (keys-used x k)
+                (engraved .keys ∙ ap (λ o. written (writes (λ (s : StaffArrays). s .keys) o) keys₀) r) i;
+          })
 
-      -- with 1 to 8 passed, both have 9 alone left
-      same-left : unless (proofReadRefusals x k (length work₀)) true ≡ togetherCall x k (length counts₀) (length heads₀) (length keys₀) (length work₀)
-      same-left =
-          passes-append (partRefusals x k) _ true (All-left _ (partRefusals x k) _ (passed .0))
-          ∙ passes-append (shortWork x (length work₀) ∷ []) _ true (rooms .0, tt)
-          ∙ sym (passes-append refusals _ true (passed .0))
+      -- the proof-reader's answer to it, with a work area that has room
+      pub read-is : {r : Result Bool} {area₀ area₁ : List ℕ} → workNeeded x ≤ length area₀
+          → ProofReadCalled asItIs (proofReadCall x k (used s (record { counts = counts₁; heads = heads₁; keys = keys₁ })) (length area₀)) area₀ r area₁
+          → r ≡ unless (unevenPart (partEven x k) ∷ []) true
+      read-is {area₀ = area₀} enough read =
+          read .answered ∙ ap (λ a. proofReadCall x k a (length area₀)) handed ∙ nine-left x k (length area₀) part-passes enough
+
+      -- ---- and then proof-reading in the same work area
 
       same-work : length work₁ ≡ length work₀
       same-work = ap (length {A = ℕ}) (engraved .work) ∙ length-replicate (length work₀) 0
 
-      pub read-together : {r : Result Bool} {work₂ : List ℕ}
-          → ProofReadCalled asItIs
-          (proofReadCall x k (record { counts = take (4 * s .bars) counts₁; heads = take (s .items) heads₁; keys = take (2 * s .items) keys₁ })
-          (length work₁))
-          work₁ r work₂
-          → Together x k counts₀ heads₀ keys₀ work₀ r counts₁ heads₁ keys₁ work₂
-      read-together read =
-          record {
-            answered = read .answered ∙ (λ i. proofReadCall x k (handed i) (same-work i)) ∙ engraved-yes x k (length work₀) ∙ same-left;
-            counts = engraved .counts;
-            heads = engraved .heads;
-            keys = engraved .keys;
-            work = read .work ∙ ap (λ n. replicate n 0) same-work;
-          }
+      module _ {r : Result Bool} {work₂ : List ℕ}
+          (read : ProofReadCalled asItIs (proofReadCall x k (used s (record { counts = counts₁; heads = heads₁; keys = keys₁ })) (length work₁)) work₁ r work₂)
+        where
+          answered : r ≡ unless (unevenPart (partEven x k) ∷ []) true
+          answered = read-is (omega (arith, same-work, ltb-false (length work₀) (workNeeded x) (rooms .0))) read
+
+          told : (v : Result Bool) → v ≡ unless (unevenPart (partEven x k) ∷ []) true
+              → Together x k counts₀ heads₀ keys₀ work₀ (given (record { size = s; verdict = v })) counts₁ heads₁ keys₁ work₂
+          told v e =
+              record {
+                answered = rw engraves (λ i. given (record { size = passed .1 i; verdict = e i }));
+                counts = engraved .counts;
+                heads = engraved .heads;
+                keys = engraved .keys;
+                work = read .work ∙ ap (λ n. replicate n 0) same-work;
+              }
+
+          pub read-uneven : {n : ℕ} → refused n ≡ r
+              → Together x k counts₀ heads₀ keys₀ work₀ (given (record { size = s; verdict = refused 9 })) counts₁ heads₁ keys₁ work₂
+          read-uneven e = told (refused 9) (only-nine (partEven x k) (e ∙ answered))
+
+          pub read-told : {b : Bool} → given b ≡ r
+              → Together x k counts₀ heads₀ keys₀ work₀ (given (record { size = s; verdict = given b })) counts₁ heads₁ keys₁ work₂
+          read-told {b} e = told (given b) (e ∙ answered)

@@ -1,33 +1,37 @@
--- Demand 3 as a call: a part is engraved into lent arrays, and what was written is proof-read.
+-- A part engraved into lent arrays, and what was written proof-read: the answer, and what the arrays hold.
 use Prim.Native.Nat.{ℕ}
 use mathlib.Core.Bool.{Bool, true}
-use mathlib.Core.List.{List, [], _∷_, _++_}
+use mathlib.Core.List.{List, [], _∷_}
 use mathlib.Core.Path.{_≡_}
 use lib.ListN.{length}
 use Rattle.rules.specs.Lists.{written, cleared}
 use Rattle.rules.specs.Piece.{Piece}
 use Rattle.rules.specs.Items.{StaffArrays}
-use Rattle.rules.specs.Refusals.{Result, Refusal, unless, writes, partRefusals, shortWork, shortOutput, unevenPart}
-use Rattle.rules.specs.Calls.{partArrays, partEven, engraveCall}
+use Rattle.rules.specs.Refusals.{Result, refused, given, unless, answers, writes, unevenPart}
+use Rattle.rules.specs.Calls.{StaffSize, partSize, partEven, engraveCall}
+use Rattle.engraver.specs.Sizes.{sizeOf}
+use Rattle.agreement.specs.declared.BothAnswer as both
 
--- 1 to 8, as engraving has them
-abbrev pub engraveRefusals : Piece → ℕ → ℕ → ℕ → ℕ → ℕ → List Refusal
-engraveRefusals x k room-counts room-heads room-keys work =
-    partRefusals x k
-    ++ (shortWork x work
-    ∷ shortOutput room-counts (partArrays x k .counts)
-    ∷ shortOutput room-heads (partArrays x k .heads)
-    ∷ shortOutput room-keys (partArrays x k .keys)
-    ∷ [])
+-- a staff that was engraved: its size, and the proof-reader's yes or no, or its number
+pub record Checked : Type 0 where
+  pub size : StaffSize
+  pub verdict : Result Bool
 
--- then 9; where no number applies, yes: there is no other answer
-abbrev pub togetherCall : Piece → ℕ → ℕ → ℕ → ℕ → ℕ → Result Bool
+-- document 01's number and values for each case: engraving's number, number 9 of an uneven part, or yes or no
+abbrev pub bothAnswer : both.BothAnswer → Result Checked
+bothAnswer (both.the-variants.Refused n) = refused n
+bothAnswer (both.the-variants.Uneven s) = given (record { size = sizeOf s; verdict = refused 9 })
+bothAnswer (both.the-variants.Read s b) = given (record { size = sizeOf s; verdict = given b })
+
+-- Engraving's number where it is refused, 1 to 8. Else the staff's size, with 9 for an uneven part and yes for an even one: there is no other answer.
+abbrev pub togetherCall : Piece → ℕ → ℕ → ℕ → ℕ → ℕ → Result Checked
 togetherCall x k room-counts room-heads room-keys work =
-    unless (engraveRefusals x k room-counts room-heads room-keys work ++ (unevenPart (partEven x k) ∷ [])) true
+    answers (λ (s : StaffArrays). record { size = partSize x k; verdict = unless (unevenPart (partEven x k) ∷ []) true })
+    (engraveCall x k room-counts room-heads room-keys work)
 
--- after the call: the outputs are as engraving leaves them
+-- after the call: the outputs are as engraving leaves them, unchanged where it was refused
 pub record Together
-    (x : Piece) (k : ℕ) (counts₀ heads₀ keys₀ work₀ : List ℕ) (answer : Result Bool) (counts₁ heads₁ keys₁ work₁ : List ℕ)
+    (x : Piece) (k : ℕ) (counts₀ heads₀ keys₀ work₀ : List ℕ) (answer : Result Checked) (counts₁ heads₁ keys₁ work₁ : List ℕ)
     : Type 0 where
   pub answered : answer ≡ togetherCall x k (length counts₀) (length heads₀) (length keys₀) (length work₀)
   pub counts : counts₁

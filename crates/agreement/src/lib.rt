@@ -1,12 +1,20 @@
 // The engraver's staff and the proof-reader's verdict, brought together: a part is engraved, and what was written is proof-read.
 ghost use Rattle.rules.specs.Piece.{piece};
-ghost use Rattle.proofread.specs.Answers.{readAnswer};
-ghost use Rattle.agreement.specs.Together.{Together};
+ghost use Rattle.agreement.specs.Together.{bothAnswer, Together};
+use engraver::Size;
 use proofread::ReadAnswer;
 use staffs::StaffAnswer;
 
-// Engraves a part into the lent arrays and hands exactly the used part of them to the proof-reader. Its answer is document 01's number
-// where there is one, else yes.
+// What happened: engraving was refused, with its number; the staff was engraved and not read, since the part is uneven; it was engraved and
+// read, and this is the verdict.
+pub enum BothAnswer {
+    Refused(u32),
+    Uneven(Size),
+    Read(Size, bool),
+}
+
+// Engraves a part into the lent arrays and hands exactly the used part of them to the proof-reader. A refused engraving leaves them unchanged;
+// in the other two cases they hold the staff.
 pub fn engrave_and_read(
     sizes: &[u32],
     deltas: &[u32],
@@ -16,18 +24,18 @@ pub fn engrave_and_read(
     heads: &mut [u32],
     keys: &mut [u64],
     work: &mut [u64],
-) -> ReadAnswer
+) -> BothAnswer
     ensures { λ r. ⌜ Together (piece (now (sizes .entry)) (now (deltas .entry)) (now (words .entry))) part
         (now (counts .entry)) (now (heads .entry)) (now (keys .entry)) (now (work .entry))
-        (readAnswer r) (now (counts .exit)) (now (heads .exit)) (now (keys .exit)) (now (work .exit)) ⌝ }
+        (bothAnswer r) (now (counts .exit)) (now (heads .exit)) (now (keys .exit)) (now (work .exit)) ⌝ }
 {
     match staffs::engrave(sizes, deltas, words, part, counts, heads, keys, work) {
-        StaffAnswer::Refused(number) => ReadAnswer::Refused(number),
+        StaffAnswer::Refused(number) => BothAnswer::Refused(number),
         StaffAnswer::Given(size) => {
             let c = 4 * size.bars;
             let h = size.items;
             let k = 2 * size.items;
-            proofread::proof_read(
+            match proofread::proof_read(
                 sizes,
                 deltas,
                 words,
@@ -36,7 +44,10 @@ pub fn engrave_and_read(
                 &heads[..h],
                 &keys[..k],
                 work,
-            )
+            ) {
+                ReadAnswer::Refused(_) => BothAnswer::Uneven(size),
+                ReadAnswer::Given(yes) => BothAnswer::Read(size, yes),
+            }
         }
     }
 }

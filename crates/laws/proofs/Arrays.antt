@@ -11,11 +11,11 @@ use Rattle.rules.specs.Lists.{bit, flag, All}
 use Rattle.rules.specs.Bars.{Bar}
 use Rattle.rules.specs.Items.{Item, Staff, headOf, headLimit, lowKeys, highKeys, itemOf, itemsOf, arraysOf, readItems, cutBy, byFours, readStaff}
 use Rattle.rules.specs.RawNotes.{RawNote}
-use Rattle.rules.specs.ProofReader.{Values, Right, Shaped}
+use Rattle.rules.specs.ProofReader.{Values, Right, Shaped, WellFormed}
 use Rattle.rules.specs.ProofReaderTests.{verdictOn}
 use Rattle.laws.proofs.Lists.{All-imp, All-map, All-flatten, by-four, length-flatten, length-flatten-each}
 use Rattle.laws.proofs.Tests.{flag-small}
-use Rattle.laws.proofs.Verdict.{says-verdict-on}
+use Rattle.laws.proofs.Verdict.{says-verdict-on, right-bars}
 
 -- an item whose code and dots have room in a head
 abbrev pub Encodable : Item → Type 0
@@ -122,10 +122,21 @@ module _ (st : Staff) (fours : All (λ bar. length bar ≡ 4) st) (small : All (
 pub values-encodable : (p : ℕ) (st : Staff) → Values p st → All (All (All Encodable)) st
 values-encodable p = All-imp (All-imp (All-imp (λ i v. (omega arith, v .dots))))
 
--- the arrays of a right staff get yes
-pub yes-written : (p g : ℕ) (notes : List RawNote) (bs : List Bar) (st : Staff)
-    → length st ≡ length bs → All (λ bar. length bar ≡ 4) st → Right p g notes bs st → verdictOn p g notes bs (arraysOf st) ≡ true
-yes-written p g notes bs st same fours right =
-    let small : All (All (All Encodable)) st = values-encodable p st (right .values) in
-    says-verdict-on p g notes bs (arraysOf st) .1
-    (shaped-written st fours small bs same, rw (read-written st fours small) right)
+module _ (p g : ℕ) (notes : List RawNote) (bs : List Bar) (st : Staff) (fours : All (λ bar. length bar ≡ 4) st) (right : Right p g notes bs st) where
+  small : All (All (All Encodable)) st
+  small = values-encodable p st (right .values)
+
+  -- the arrays of a right staff are well formed, ..
+  formed-written : WellFormed p bs (arraysOf st)
+  formed-written =
+      let same : readStaff (arraysOf st) ≡ st = read-written st fours small in
+      record {
+        shaped = shaped-written st fours small bs (right-bars p g notes bs st right);
+        values = rw same (right .values);
+        clean = rw same (right .clean);
+        ties = rw same (right .ties);
+      }
+
+  -- .. and get yes
+  pub yes-written : verdictOn p g notes bs (arraysOf st) ≡ true
+  yes-written = says-verdict-on p g notes bs (arraysOf st) .1 (formed-written, rw (read-written st fours small) right)

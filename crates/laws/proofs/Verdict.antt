@@ -1,7 +1,9 @@
 -- The proof-reader's verdict, point by point: each test says its fact, and yes says that the staff is right.
-use Prim.Native.Nat.{ℕ, _*_, _%_, _∣_}
+use Prim.Native.Nat.{ℕ, suc, _*_, _%_, _∣_}
+use mathlib.Core.Bool.{false, false≢true}
 use mathlib.Core.List.{List, [], _∷_, map}
 use mathlib.Core.Option.{Option, none, some}
+use mathlib.Core.Path.{_≡_, refl, ap}
 use lib.Dec.{eqb}
 use lib.ListN.{length}
 use native.Mathlib.Nat.{dvd-of-mod-eq-zero, mod-eq-zero-of-dvd}
@@ -12,11 +14,11 @@ use Rattle.rules.specs.Grid.{grid, snapped}
 use Rattle.rules.specs.Values.{isWhole, smallest}
 use Rattle.rules.specs.Items.{Item, Staff, StaffArrays, headLimit, readStaff}
 use Rattle.rules.specs.ProofReader.{StaffValue, Values, Fill, EmptyOrFill, Full, Clean, AllClean, Meets, FreeAt, Tied, Ties, NoteFound, KeysMeant, EndsWithNote}
-use Rattle.rules.specs.ProofReader.{EndsMeant, Right, Shaped, Timed, Tie, Played, itemTicks, voiceItems, voiceTimed, voiceNumbers, played, tieAfter}
+use Rattle.rules.specs.ProofReader.{EndsMeant, Right, Shaped, WellFormed, Timed, Tie, Played, itemTicks, voiceItems, voiceTimed, voiceNumbers, played, tieAfter}
 use Rattle.rules.specs.ProofReaderTests.{staffValue?, values?, fill?, emptyOrFill?, full?, clean?, allClean?, meets?, freeAt?, tied?}
 use Rattle.rules.specs.ProofReaderTests.{ties?, noteFound?, keysMeant?, endsWithNote?, endsMeant?, right?, shaped?, verdictOn, even?}
 use Rattle.laws.specs.Says.{Says}
-use Rattle.laws.specs.Claims.{YesExactly}
+use Rattle.laws.specs.Claims.{YesExactly, FormedExactly, RightBars}
 use Rattle.laws.proofs.Reflection.{says-flag, says-true, says-eq, says-lt, says-le, says-beq, says-not, says-and, says-or, says-imp}
 use Rattle.laws.proofs.Reflection.{says-cond, says-as, says-and3, says-or3, says-and4, says-every, says-any, says-below}
 
@@ -39,10 +41,14 @@ pub says-empty-or-fill : (p : ℕ) (b : Bar) (is : List Item) → Says (emptyOrF
 says-empty-or-fill p b [] = says-true
 says-empty-or-fill p b (i ∷ is) = says-fill p b (i ∷ is)
 
+says-false : Says false ⊥
+says-false = (false≢true, λ x. absurd x)
+
 pub says-full : (p : ℕ) (bs : List Bar) (st : Staff) → Says (full? p bs st) (Full p bs st)
 unfolding full?
-says-full p [] st = says-true
-says-full p (b ∷ bs) [] = says-true
+says-full p [] [] = says-true
+says-full p [] (bar ∷ st) = says-false
+says-full p (b ∷ bs) [] = says-false
 says-full p (b ∷ bs) (bar ∷ st) =
     says-and3 (says-fill p b (voiceItems 0 bar)) (says-every (says-empty-or-fill p b) bar) (says-full p bs st)
 
@@ -153,13 +159,46 @@ says-shaped bs s =
 
 -- the verdict on a given grid
 pub says-verdict-on : (p g : ℕ) (notes : List RawNote) (bs : List Bar) (s : StaffArrays)
-    → Says (verdictOn p g notes bs s) (Shaped bs s × Right p g notes bs (readStaff s))
-says-verdict-on p g notes bs s = says-and (says-shaped bs s) (says-right p g notes bs (readStaff s))
+    → Says (verdictOn p g notes bs s) (WellFormed p bs s × Right p g notes bs (readStaff s))
+says-verdict-on p g notes bs s =
+    says-as (says-and (says-shaped bs s) (says-right p g notes bs (readStaff s))) (
+      λ x. (record { shaped = x .0; values = x .1 .values; clean = x .1 .clean; ties = x .1 .ties }, x .1),
+      λ x. (x .0 .shaped, x .1),
+    )
 
 pub yes-exactly : YesExactly
 yes-exactly p notes bs s =
     says-as (says-verdict-on p (grid p notes) notes bs s)
-    (λ x. record { shaped = x .0; right = x .1 }, λ r. (r .shaped, r .right))
+    (λ x. record { formed = x .0; right = x .1 }, λ r. (r .formed, r .right))
+
+pub formed-exactly : FormedExactly
+formed-exactly p notes bs s formed = (
+  λ r. record { full = r .right .full; found = r .right .found; meant = r .right .meant; ends = r .right .ends },
+  λ x.
+      record {
+        formed = formed;
+        right =
+            record {
+              values = formed .values;
+              full = x .full;
+              clean = formed .clean;
+              ties = formed .ties;
+              found = x .found;
+              meant = x .meant;
+              ends = x .ends;
+            };
+      },
+)
+
+-- bars and staff run out together
+full-bars : (p : ℕ) (bs : List Bar) (st : Staff) → Full p bs st → length st ≡ length bs
+full-bars p [] [] h = refl
+full-bars p [] (bar ∷ st) h = absurd h
+full-bars p (b ∷ bs) [] h = absurd h
+full-bars p (b ∷ bs) (bar ∷ st) h = ap suc (full-bars p bs st (h .2))
+
+pub right-bars : RightBars
+right-bars p g notes bs st r = full-bars p bs st (r .full)
 
 -- ---- even pieces
 

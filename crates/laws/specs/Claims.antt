@@ -1,13 +1,32 @@
 -- What the laws say of the rules, for a reader: their proofs are in proofs/.
 use Prim.Native.Nat.{ℕ}
 use mathlib.Core.List.{List}
+use mathlib.Core.Logic.{_↔_}
+use mathlib.Core.Path.{_≡_}
+use lib.ListN.{length}
 use Rattle.rules.specs.RawNotes.{RawNote}
 use Rattle.rules.specs.Bars.{Bar}
-use Rattle.rules.specs.Items.{StaffArrays}
-use Rattle.rules.specs.ProofReader.{ProofRead}
+use Rattle.rules.specs.Grid.{grid}
+use Rattle.rules.specs.Items.{Staff, StaffArrays, readStaff}
+use Rattle.rules.specs.ProofReader.{Full, AllFound, AllMeant, AllEnd, Right, WellFormed, ProofRead}
 use Rattle.rules.specs.ProofReaderTests.{verdict}
 use Rattle.laws.specs.Says.{Says}
 
--- The proof-reader says yes exactly if the arrays are well shaped and the staff in them is right: no yes too many, and none too few.
+-- The proof-reader says yes exactly if the staff is well formed and right: no yes too many, and none too few.
 abbrev pub YesExactly : Type 0
 YesExactly = (p : ℕ) (notes : List RawNote) (bs : List Bar) (s : StaffArrays) → Says (verdict p notes bs s) (ProofRead p notes bs s)
+
+-- What is asked of a well formed staff: full bars, and the three points on the raw notes.
+pub record PlaysNotes (p : ℕ) (notes : List RawNote) (bs : List Bar) (s : StaffArrays) : Type 0 where
+  pub full : Full p bs (readStaff s)
+  pub found : AllFound p (grid p notes) notes bs (readStaff s)
+  pub meant : AllMeant p (grid p notes) notes bs (readStaff s)
+  pub ends : AllEnd p (grid p notes) notes bs (readStaff s)
+
+abbrev pub FormedExactly : Type 0
+FormedExactly = (p : ℕ) (notes : List RawNote) (bs : List Bar) (s : StaffArrays) → WellFormed p bs s
+    → ProofRead p notes bs s ↔ PlaysNotes p notes bs s
+
+-- A right staff has as many bars as there are: none is missing, and none is spare.
+abbrev pub RightBars : Type 0
+RightBars = (p g : ℕ) (notes : List RawNote) (bs : List Bar) (st : Staff) → Right p g notes bs st → length st ≡ length bs

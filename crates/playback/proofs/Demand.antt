@@ -26,7 +26,7 @@ use Rattle.laws.proofs.Splits.{split-total, split-staff}
 use Rattle.laws.proofs.Verdict.{says-even}
 use Rattle.laws.proofs.VoiceLaws.{voices-four, voices-line, voices-found, voices-meant, voices-closed}
 use Rattle.playback.specs.Demand.{Even, PlaysBack, EngravedRight, VerdictYes, PartPlaysBack, EngravedYes}
-use Rattle.playback.proofs.Engraved.{Engraves, staff-engraves, staff-shape, staff-length}
+use Rattle.playback.proofs.Engraved.{Engraves, staff-engraves, staff-shape}
 use Rattle.playback.proofs.Heard.{heard-found, heard-meant, heard-ends}
 
 -- ---- notes on a grid
@@ -62,8 +62,7 @@ engraved-right = right
 
 pub verdict-yes : VerdictYes
 verdict-yes p g ns bs even =
-    yes-written p g ns bs (engravedOn p g ns bs) (staff-length p (voices g ns) bs) (staff-shape p (voices g ns) bs (voices-four g ns))
-    (right p g ns bs even)
+    yes-written p g ns bs (engravedOn p g ns bs) (staff-shape p (voices g ns) bs (voices-four g ns)) (right p g ns bs even)
 
 -- ---- parts of a piece
 

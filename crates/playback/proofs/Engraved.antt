@@ -74,9 +74,6 @@ or-empty p b (i ∷ is) f = f
 pub staff-shape : (p : ℕ) (vs : List (List Chord)) (bs : List Bar) → length vs ≡ 4 → All (λ (bar : List (List Item)). length bar ≡ 4) (staffOf p vs bs)
 staff-shape p vs bs four = All-map _ (voicesIn p vs) (λ b e. e ∙ four) bs (All-all (bar-length p vs) bs)
 
-pub staff-length : (p : ℕ) (vs : List (List Chord)) (bs : List Bar) → length (staffOf p vs bs) ≡ length bs
-staff-length p vs bs = length-map bs (voicesIn p vs)
-
 -- what is shown of the staff of voices in bars
 pub record Engraves (p : ℕ) (vs : List (List Chord)) (bs : List Bar) : Type 0 where
   pub plays : played p bs (staffOf p vs bs) ≡ map (heardTo (lastBarEnd bs)) vs

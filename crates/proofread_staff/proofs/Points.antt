@@ -116,8 +116,9 @@ front-voice p b is x = by (fill? p b is) refl
 full-voices : (p e : ℕ) (ns : List RawNote) (bs : List Bar) (st : Staff) → Fours bs st
     → full? p bs st ≡ (fullIn? p e ns 0 bs st && fullIn? p e ns 1 bs st && fullIn? p e ns 2 bs st && fullIn? p e ns 3 bs st)
 unfolding full? fullIn?
-full-voices p e ns [] st h = refl
-full-voices p e ns (b ∷ bs) [] h = refl
+full-voices p e ns [] [] h = refl
+full-voices p e ns [] (bar ∷ st) h = let s = h .same in absurd (omega arith)
+full-voices p e ns (b ∷ bs) [] h = let s = h .same in absurd (omega arith)
 full-voices p e ns (b ∷ bs) (bar ∷ st) h =
     let f : ℕ → Bool = λ v. emptyOrFill? p b (voiceItems v bar) in
     let rest : Fours bs st = record { same = let s = h .same in omega arith; four = h .four .1 } in

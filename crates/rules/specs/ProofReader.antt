@@ -96,10 +96,11 @@ abbrev pub EmptyOrFill : ℕ → Bar → List Item → Type 0
 EmptyOrFill p b [] = Unit {0}
 EmptyOrFill p b (i ∷ is) = Fill p b (i ∷ is)
 
--- Each voice that has items fills its bar, voice 0 always.
+-- Each voice that has items fills its bar, voice 0 always. So no bar is missing, and none is spare: bars and staff run out together.
 abbrev pub Full : ℕ → List Bar → Staff → Type 0
-Full p [] st = Unit {0}
-Full p (b ∷ bs) [] = Unit {0}
+Full p [] [] = Unit {0}
+Full p [] (bar ∷ st) = ⊥
+Full p (b ∷ bs) [] = ⊥
 Full p (b ∷ bs) (bar ∷ st) = Fill p b (voiceItems 0 bar) × All (EmptyOrFill p b) bar × Full p bs st
 
 -- Rests have no keys or marks (ties, unpitched), other items at least one key.
@@ -162,15 +163,25 @@ EndsMeant e ns [] = Unit {0}
 EndsMeant e ns (c ∷ []) = EndsWithNote ns c ⊎ (c .end ≡ e)
 EndsMeant e ns (c ∷ d ∷ cs) = (EndsWithNote ns c ⊎ (c .end ≡ d .start) ⊎ (c .end ≡ e)) × EndsMeant e ns (d ∷ cs)
 
--- A right staff. The notes are a part's raw notes, g their grid.
+-- The three points on the raw notes. The notes are a part's raw notes, g their grid.
+abbrev pub AllFound : ℕ → ℕ → List RawNote → List Bar → Staff → Type 0
+AllFound p g notes bs st = All (NoteFound (lastBarEnd bs) (played p bs st)) (map (snapped g) notes)
+
+abbrev pub AllMeant : ℕ → ℕ → List RawNote → List Bar → Staff → Type 0
+AllMeant p g notes bs st = All (All (KeysMeant (lastBarEnd bs) (map (snapped g) notes))) (played p bs st)
+
+abbrev pub AllEnd : ℕ → ℕ → List RawNote → List Bar → Staff → Type 0
+AllEnd p g notes bs st = All (EndsMeant (lastBarEnd bs) (map (snapped g) notes)) (played p bs st)
+
+-- A right staff: the seven points.
 pub record Right (p g : ℕ) (notes : List RawNote) (bs : List Bar) (st : Staff) : Type 0 where
   pub values : Values p st
   pub full : Full p bs st
   pub clean : AllClean st
   pub ties : Ties p bs st
-  pub found : All (NoteFound (lastBarEnd bs) (played p bs st)) (map (snapped g) notes)
-  pub meant : All (All (KeysMeant (lastBarEnd bs) (map (snapped g) notes))) (played p bs st)
-  pub ends : All (EndsMeant (lastBarEnd bs) (map (snapped g) notes)) (played p bs st)
+  pub found : AllFound p g notes bs st
+  pub meant : AllMeant p g notes bs st
+  pub ends : AllEnd p g notes bs st
 
 -- Arrays that fit the counts exactly, four a bar, and no head bit set that has no meaning.
 pub record Shaped (bs : List Bar) (s : StaffArrays) : Type 0 where
@@ -179,7 +190,14 @@ pub record Shaped (bs : List Bar) (s : StaffArrays) : Type 0 where
   pub keys : length (s .keys) ≡ 2 * sum (s .counts)
   pub bits : All (λ h. h < headLimit) (s .heads)
 
--- Yes means this.
-pub record ProofRead (p : ℕ) (notes : List RawNote) (bs : List Bar) (s : StaffArrays) : Type 0 where
+-- Demand 3's "well formed": not malformed, and every point before the raw notes except full bars.
+pub record WellFormed (p : ℕ) (bs : List Bar) (s : StaffArrays) : Type 0 where
   pub shaped : Shaped bs s
+  pub values : Values p (readStaff s)
+  pub clean : AllClean (readStaff s)
+  pub ties : Ties p bs (readStaff s)
+
+-- Yes means this: well formed, and right.
+pub record ProofRead (p : ℕ) (notes : List RawNote) (bs : List Bar) (s : StaffArrays) : Type 0 where
+  pub formed : WellFormed p bs s
   pub right : Right p (grid p notes) notes bs (readStaff s)

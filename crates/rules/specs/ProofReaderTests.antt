@@ -1,6 +1,6 @@
 -- Section 8, the same points as tests, word for word, and the proof-reader's verdict.
 use Prim.Native.Nat.{ℕ, _*_, _%_}
-use mathlib.Core.Bool.{Bool, true, cond, not, _&&_, _||_, Bool·beq}
+use mathlib.Core.Bool.{Bool, true, false, cond, not, _&&_, _||_, Bool·beq}
 use mathlib.Core.List.{List, [], _∷_, map}
 use mathlib.Core.Option.{Option, none, some}
 use lib.Dec.{eqb, leb, ltb}
@@ -27,8 +27,9 @@ emptyOrFill? p b [] = true
 emptyOrFill? p b (i ∷ is) = fill? p b (i ∷ is)
 
 unfoldable pub full? : ℕ → List Bar → Staff → Bool
-full? p [] st = true
-full? p (b ∷ bs) [] = true
+full? p [] [] = true
+full? p [] (bar ∷ st) = false
+full? p (b ∷ bs) [] = false
 full? p (b ∷ bs) (bar ∷ st) = fill? p b (voiceItems 0 bar) && every (emptyOrFill? p b) bar && full? p bs st
 
 abbrev pub clean? : Item → Bool

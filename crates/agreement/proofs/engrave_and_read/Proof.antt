@@ -1,12 +1,14 @@
--- `engrave_and_read`: a refused engraving has its number; any other is handed to the proof-reader, neither more nor less of it.
+-- `engrave_and_read`: a refused engraving has its number; any other is handed to the proof-reader, neither more nor less of it, and the answer says
+-- whether it was read.
 use Prim.Native.Nat.{_*_, _≤_}
 use mathlib.Core.Path.{sym, ap}
 use native.Mathlib.Omega.{arith}
 use borrow.Author.Needs.{needs}
 use lib.ListN.{length}
 use lib.Seq.{length-take-le}
+use Rattle.proofread.specs.Answers.{readAnswer}
 use Rattle.staffs.specs.Parts.{answerOf}
-use Rattle.agreement.proofs.Together.{engraving-refused, counts-fit, heads-fit, keys-fit, read-together}
+use Rattle.agreement.proofs.Together.{engraving-refused, counts-fit, heads-fit, keys-fit, read-uneven, read-told}
 use Rattle.agreement.proofs.engrave_and_read.Statement.{statement}
 use Rattle.agreement.proofs.engrave_and_read.Tie as tie
 
@@ -57,12 +59,23 @@ returns c =
 
 returns-2 : tie.Need-returns-2
 returns-2 c =
-    let at-proof-read-arg2 = c .before .before .before .before .before in
-    let at-size = at-proof-read-arg2 .before .before .before .before .before in
+    let at-proof-read = c .before .before .before .before in
+    let at-size = at-proof-read .before .before .before .before .before .before .before .before in
     let at-match = at-size .before in
     let at-keys = at-match .before .before .before .before in
     let at-engrave = at-keys .before .before .before .before .before in
-    read-together _ _ (at-engrave .engrave .ensures) _ (ap answerOf (sym (at-size .size .given .1))) (c .before .before .proof-read .ensures)
+    read-uneven _ _ (at-engrave .engrave .ensures) _ (ap answerOf (sym (at-size .size .given .1))) (at-proof-read .proof-read .ensures)
+    (ap readAnswer (sym (c .enum-told .given .1)))
+
+returns-3 : tie.Need-returns-3
+returns-3 c =
+    let at-proof-read = c .before .before .before .before .before in
+    let at-size = at-proof-read .before .before .before .before .before .before .before .before in
+    let at-match = at-size .before in
+    let at-keys = at-match .before .before .before .before in
+    let at-engrave = at-keys .before .before .before .before .before in
+    read-told _ _ (at-engrave .engrave .ensures) _ (ap answerOf (sym (at-size .size .given .1))) (at-proof-read .proof-read .ensures)
+    (ap readAnswer (sym (c .before .yes .given .1)))
 
 counts-part : tie.Need-slice-reshare-prefix-proof-read
 counts-part c =
@@ -111,9 +124,16 @@ engrave-and-read-spec =
     (λ c. search needs)
     (λ c. search needs)
     (λ c. search needs)
+    (λ c. search needs)
+    (λ c. search needs)
     returns
     (λ c. search needs)
     (λ c. search needs)
     (λ c. search needs)
     (λ c. search needs)
-    returns-2)
+    returns-2
+    (λ c. search needs)
+    (λ c. search needs)
+    (λ c. search needs)
+    (λ c. search needs)
+    returns-3)
