@@ -2,13 +2,13 @@
 use Prim.Native.Nat.{ℕ, zero, suc, _+_, _*_, _≤_, _<_}
 use mathlib.Core.Bool.{Bool, true, false, cond, not, _&&_, _||_, false≢true, or-true, and-eq-true-iff}
 use mathlib.Core.List.{[], _∷_}
-use mathlib.Core.Logic.{_⊎_, inl, inr}
+use mathlib.Core.Logic.{inl, inr}
 use mathlib.Core.Path.{_≡_, refl, sym, ap, _∙_}
 use native.Mathlib.Omega.{arith}
 use borrow.Author.Tests.{eqb-true, eqb-false, eq-eqb, ne-eqb, lt-leb}
 use lib.Dec.{eqb, leb}
 use lib.IntN.{subℕ}
-use Rattle.rules.specs.Piece.{kindOf, byteA, byteB, byteC, isKind, tempoValue, wellFormed}
+use Rattle.rules.specs.Piece.{kindOf, byteA, byteB, byteC, isKind, tempoValue, bendValue, isOn, isOff, wellFormed}
 use Rattle.rules.specs.Standard.{Meaning, noteOff, noteOn, keyPressure, controlChange, programChange, channelPressure, pitchBend, setTempo}
 use Rattle.rules.specs.Standard.{timeSignature, keySignature, sequencerSpecific, endOfTrack, otherMeta, systemExclusive, unknown}
 use Rattle.rules.specs.Standard.{noteOnOrOff, bigEndian}
@@ -139,66 +139,72 @@ released ch x zero h = refl
 released ch x (suc v) h = let z : suc v ≡ 0 = eqb-true (suc v) 0 h in absurd (omega arith)
 
 module _ (w : ℕ) where
-  word-named : kindNamed (meaning w) ≡ named (kindOf w) (byteC w)
+  word-named : (m : Meaning) → meaning w ≡ m → named (kindOf w) (byteC w) ≡ kindNamed m
   unfolding Named
-  word-named = kind-named (byteA w) (byteB w) (byteC w) (kindOf w)
+  word-named m e = sym (kind-named (byteA w) (byteB w) (byteC w) (kindOf w)) ∙ ap kindNamed e
 
   of-kind : (k : ℕ) → isKind k w ≡ true → meaning w ≡ meaningOf k (byteA w) (byteB w) (byteC w)
   of-kind k h = ap (λ n. meaningOf n (byteA w) (byteB w) (byteC w)) (eqb-true (kindOf w) k h)
 
-  only : (m : Meaning) → ordinary (kindNamed m) ≡ true → meaning w ≡ m → isKind (kindNamed m) w ≡ true
-  only m o e = eq-eqb (kindOf w) (kindNamed m) (plain (kindOf w) (byteC w) (kindNamed m) o (sym word-named ∙ ap kindNamed e))
+  only : (m : Meaning) → ordinary (kindNamed m) ≡ true → meaning w ≡ m
+      → (isKind (kindNamed m) w ≡ true) × (m ≡ meaningOf (kindNamed m) (byteA w) (byteB w) (byteC w))
+  only m o e =
+      let t = eq-eqb (kindOf w) (kindNamed m) (plain (kindOf w) (byteC w) (kindNamed m) o (word-named m e)) in
+      (t, sym e ∙ of-kind (kindNamed m) t)
 
-  off-by : (isKind 8 w ≡ true) ⊎ (isKind 9 w && eqb (byteC w) 0 ≡ true) → meaning w ≡ noteOff (byteA w) (byteB w) (byteC w)
+  off-is : isOff w ≡ true → meaning w ≡ noteOff (byteA w) (byteB w) (byteC w)
   unfolding meaningOf
-  off-by (inl h) = of-kind 8 h
-  off-by (inr h) =
-      let k = and-eq-true-iff (isKind 9 w) (eqb (byteC w) 0) .0 h in
-      of-kind 9 (k .0) ∙ released (byteA w) (byteB w) (byteC w) (k .1)
+  off-is h =
+      elim (by-or (isKind 8 w) (isKind 9 w && eqb (byteC w) 0) h) [
+        | inl t ↦ of-kind 8 t
+        | inr t ↦
+            let k = and-eq-true-iff (isKind 9 w) (eqb (byteC w) 0) .0 t in
+            of-kind 9 (k .0) ∙ released (byteA w) (byteB w) (byteC w) (k .1)
+      ]
 
-  on-by : (isKind 9 w ≡ true) × (not (eqb (byteC w) 0) ≡ true) → meaning w ≡ noteOn (byteA w) (byteB w) (byteC w)
+  on-is : isOn w ≡ true → meaning w ≡ noteOn (byteA w) (byteB w) (byteC w)
   unfolding meaningOf
-  on-by k = of-kind 9 (k .0) ∙ struck (byteA w) (byteB w) (byteC w) (k .1)
+  on-is h =
+      let k = and-eq-true-iff (isKind 9 w) (not (eqb (byteC w) 0)) .0 h in
+      of-kind 9 (k .0) ∙ struck (byteA w) (byteB w) (byteC w) (k .1)
 
-  tempo-bytes : bigEndian (byteA w ∷ byteB w ∷ byteC w ∷ []) ≡ tempoValue w
-  tempo-bytes = omega arith
+  tempo-is : isKind 2 w ≡ true → meaning w ≡ setTempo (tempoValue w)
+  unfolding meaningOf
+  tempo-is h = let bytes : bigEndian (byteA w ∷ byteB w ∷ byteC w ∷ []) ≡ tempoValue w = omega arith in of-kind 2 h ∙ ap setTempo bytes
 
-  bend-sum : byteC w * 128 + byteB w ≡ byteB w + 128 * byteC w
-  bend-sum = omega arith
+  bend-is : isKind 14 w ≡ true → meaning w ≡ pitchBend (byteA w) (bendValue w)
+  unfolding meaningOf
+  bend-is h =
+      let sum : byteC w * 128 + byteB w ≡ byteB w + 128 * byteC w = omega arith in
+      of-kind 14 h ∙ ap (λ n. pitchBend (byteA w) (subℕ n 8192)) sum
 
   not-formed : tabled (kindOf w) ≡ false → wellFormed w ≡ false
   unfolding wellFormed
-  not-formed h =
-      simp (other (kindOf w))
+  not-formed h = simp (other (kindOf w))
 
   pub read-as-standard : ReadAsStandard w
   unfolding kindNamed meaningOf
   read-as-standard =
       record {
-        other = (of-kind 0, only otherMeta refl);
-        system = (of-kind 1, only systemExclusive refl);
-        tempo = λ h. of-kind 2 h ∙ ap setTempo tempo-bytes;
-        only-tempo = λ v. only (setTempo v) refl;
-        meter = of-kind 3;
-        only-meter = λ u l. only (timeSignature u l) refl;
-        key = of-kind 4;
-        only-key = λ f m. only (keySignature f m) refl;
-        marker = of-kind 5;
-        only-marker = λ bs. only (sequencerSpecific bs) refl;
-        end = (of-kind 6, only endOfTrack refl);
-        off = λ h. off-by (by-or (isKind 8 w) (isKind 9 w && eqb (byteC w) 0) h);
-        only-off = λ ch x v e. eight-named (kindOf w) (byteC w) (sym word-named ∙ ap kindNamed e);
-        on = λ h. on-by (and-eq-true-iff (isKind 9 w) (not (eqb (byteC w) 0)) .0 h);
-        only-on = λ ch x v e. nine-named (kindOf w) (byteC w) (sym word-named ∙ ap kindNamed e);
-        key-pressure = of-kind 10;
-        only-key-pressure = λ ch x v. only (keyPressure ch x v) refl;
-        controller = of-kind 11;
-        only-controller = λ ch n v. only (controlChange ch n v) refl;
-        program = of-kind 12;
-        only-program = λ ch p. only (programChange ch p) refl;
-        channel-pressure = of-kind 13;
-        only-channel-pressure = λ ch v. only (channelPressure ch v) refl;
-        bend = λ h. of-kind 14 h ∙ ap (λ n. pitchBend (byteA w) (subℕ n 8192)) bend-sum;
-        only-bend = λ ch v. only (pitchBend ch v) refl;
-        known = λ h e. false≢true (sym (not-formed (none-of (kindOf w) (byteC w) (sym word-named ∙ ap kindNamed e))) ∙ h);
+        other = (λ e. only otherMeta refl e .0, of-kind 0);
+        system = (λ e. only systemExclusive refl e .0, of-kind 1);
+        tempo = λ v. (λ e. let s = only (setTempo v) refl e in let is = tempo-is (s .0) in (s .0, cc), λ h. rw (h .1) (tempo-is (h .0)));
+        meter = λ u l. (λ e. let s = only (timeSignature u l) refl e in (s .0, cc, cc), λ h. rw (h .1, h .2) (of-kind 3 (h .0)));
+        key = λ f m. (λ e. let s = only (keySignature f m) refl e in (s .0, cc, cc), λ h. rw (h .1, h .2) (of-kind 4 (h .0)));
+        marker = λ bs. (λ e. let s = only (sequencerSpecific bs) refl e in (s .0, cc), λ h. rw (h .1) (of-kind 5 (h .0)));
+        end = (λ e. only endOfTrack refl e .0, of-kind 6);
+        off = λ ch k v. (
+          λ e. let t = eight-named (kindOf w) (byteC w) (word-named (noteOff ch k v) e) in let is = off-is t in (t, cc, cc, cc),
+          λ h. rw (h .1, h .2, h .3) (off-is (h .0)),
+        );
+        on = λ ch k v. (
+          λ e. let t = nine-named (kindOf w) (byteC w) (word-named (noteOn ch k v) e) in let is = on-is t in (t, cc, cc, cc),
+          λ h. rw (h .1, h .2, h .3) (on-is (h .0)),
+        );
+        key-pressure = λ ch k v. (λ e. let s = only (keyPressure ch k v) refl e in (s .0, cc, cc, cc), λ h. rw (h .1, h .2, h .3) (of-kind 10 (h .0)));
+        controller = λ ch n v. (λ e. let s = only (controlChange ch n v) refl e in (s .0, cc, cc, cc), λ h. rw (h .1, h .2, h .3) (of-kind 11 (h .0)));
+        program = λ ch p. (λ e. let s = only (programChange ch p) refl e in (s .0, cc, cc), λ h. rw (h .1, h .2) (of-kind 12 (h .0)));
+        channel-pressure = λ ch v. (λ e. let s = only (channelPressure ch v) refl e in (s .0, cc, cc), λ h. rw (h .1, h .2) (of-kind 13 (h .0)));
+        bend = λ ch v. (λ e. let s = only (pitchBend ch v) refl e in let is = bend-is (s .0) in (s .0, cc, cc), λ h. rw (h .1, h .2) (bend-is (h .0)));
+        known = λ h e. false≢true (sym (not-formed (none-of (kindOf w) (byteC w) (word-named unknown e))) ∙ h);
       }

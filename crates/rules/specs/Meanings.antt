@@ -40,35 +40,24 @@ meaning w = meaningOf (kindOf w) (byteA w) (byteB w) (byteC w)
 
 -- ---- what is claimed
 
--- Document 01's table reads each word as the standards mean it. Where a test of the table holds, the meaning is of that form, with the values that
--- the sections read; and where the meaning is of that form, with any values, the test holds.
+-- Document 01's table reads each word as the standards mean it: a word means one thing, with these values, exactly if its test in the table holds
+-- and the values are those that the sections read.
 pub record ReadAsStandard (w : ℕ) : Type 0 where
-  pub other : (isKind 0 w ≡ true) ↔ (meaning w ≡ otherMeta)
-  pub system : (isKind 1 w ≡ true) ↔ (meaning w ≡ systemExclusive)
-  pub tempo : isKind 2 w ≡ true → meaning w ≡ setTempo (tempoValue w)
-  pub only-tempo : (v : ℕ) → meaning w ≡ setTempo v → isKind 2 w ≡ true
-  pub meter : isKind 3 w ≡ true → meaning w ≡ timeSignature (upperFigure w) (lowerFigure w)
-  pub only-meter : (upper lower : ℕ) → meaning w ≡ timeSignature upper lower → isKind 3 w ≡ true
-  pub key : isKind 4 w ≡ true → meaning w ≡ keySignature (signedFifths w) (isMinor w)
-  pub only-key : (fifths : ℤ) (minor : Bool) → meaning w ≡ keySignature fifths minor → isKind 4 w ≡ true
-  pub marker : isKind 5 w ≡ true → meaning w ≡ sequencerSpecific (markerData (byteA w) (byteB w))
-  pub only-marker : (bs : List ℕ) → meaning w ≡ sequencerSpecific bs → isKind 5 w ≡ true
-  pub end : (isKind 6 w ≡ true) ↔ (meaning w ≡ endOfTrack)
+  pub other : (meaning w ≡ otherMeta) ↔ (isKind 0 w ≡ true)
+  pub system : (meaning w ≡ systemExclusive) ↔ (isKind 1 w ≡ true)
+  pub tempo : (v : ℕ) → (meaning w ≡ setTempo v) ↔ ((isKind 2 w ≡ true) × (v ≡ tempoValue w))
+  pub meter : (u l : ℕ) → (meaning w ≡ timeSignature u l) ↔ ((isKind 3 w ≡ true) × (u ≡ upperFigure w) × (l ≡ lowerFigure w))
+  pub key : (f : ℤ) (m : Bool) → (meaning w ≡ keySignature f m) ↔ ((isKind 4 w ≡ true) × (f ≡ signedFifths w) × (m ≡ isMinor w))
+  pub marker : (bs : List ℕ) → (meaning w ≡ sequencerSpecific bs) ↔ ((isKind 5 w ≡ true) × (bs ≡ markerData (byteA w) (byteB w)))
+  pub end : (meaning w ≡ endOfTrack) ↔ (isKind 6 w ≡ true)
   -- an off is a Note Off, or a Note On of velocity 0
-  pub off : isOff w ≡ true → meaning w ≡ noteOff (channelOf w) (byteB w) (byteC w)
-  pub only-off : (ch k v : ℕ) → meaning w ≡ noteOff ch k v → isOff w ≡ true
+  pub off : (ch k v : ℕ) → (meaning w ≡ noteOff ch k v) ↔ ((isOff w ≡ true) × (ch ≡ channelOf w) × (k ≡ byteB w) × (v ≡ byteC w))
   -- an on is a Note On above velocity 0
-  pub on : isOn w ≡ true → meaning w ≡ noteOn (channelOf w) (byteB w) (byteC w)
-  pub only-on : (ch k v : ℕ) → meaning w ≡ noteOn ch k v → isOn w ≡ true
-  pub key-pressure : isKind 10 w ≡ true → meaning w ≡ keyPressure (channelOf w) (byteB w) (byteC w)
-  pub only-key-pressure : (ch k v : ℕ) → meaning w ≡ keyPressure ch k v → isKind 10 w ≡ true
-  pub controller : isKind 11 w ≡ true → meaning w ≡ controlChange (channelOf w) (byteB w) (byteC w)
-  pub only-controller : (ch n v : ℕ) → meaning w ≡ controlChange ch n v → isKind 11 w ≡ true
-  pub program : isKind 12 w ≡ true → meaning w ≡ programChange (channelOf w) (byteB w)
-  pub only-program : (ch p : ℕ) → meaning w ≡ programChange ch p → isKind 12 w ≡ true
-  pub channel-pressure : isKind 13 w ≡ true → meaning w ≡ channelPressure (channelOf w) (byteB w)
-  pub only-channel-pressure : (ch v : ℕ) → meaning w ≡ channelPressure ch v → isKind 13 w ≡ true
-  pub bend : isKind 14 w ≡ true → meaning w ≡ pitchBend (channelOf w) (bendValue w)
-  pub only-bend : (ch : ℕ) (v : ℤ) → meaning w ≡ pitchBend ch v → isKind 14 w ≡ true
+  pub on : (ch k v : ℕ) → (meaning w ≡ noteOn ch k v) ↔ ((isOn w ≡ true) × (ch ≡ channelOf w) × (k ≡ byteB w) × (v ≡ byteC w))
+  pub key-pressure : (ch k v : ℕ) → (meaning w ≡ keyPressure ch k v) ↔ ((isKind 10 w ≡ true) × (ch ≡ channelOf w) × (k ≡ byteB w) × (v ≡ byteC w))
+  pub controller : (ch n v : ℕ) → (meaning w ≡ controlChange ch n v) ↔ ((isKind 11 w ≡ true) × (ch ≡ channelOf w) × (n ≡ byteB w) × (v ≡ byteC w))
+  pub program : (ch p : ℕ) → (meaning w ≡ programChange ch p) ↔ ((isKind 12 w ≡ true) × (ch ≡ channelOf w) × (p ≡ byteB w))
+  pub channel-pressure : (ch v : ℕ) → (meaning w ≡ channelPressure ch v) ↔ ((isKind 13 w ≡ true) × (ch ≡ channelOf w) × (v ≡ byteB w))
+  pub bend : (ch : ℕ) (v : ℤ) → (meaning w ≡ pitchBend ch v) ↔ ((isKind 14 w ≡ true) × (ch ≡ channelOf w) × (v ≡ bendValue w))
   -- a word that document 01 takes has a meaning
   pub known : wellFormed w ≡ true → meaning w ≡ unknown → ⊥
