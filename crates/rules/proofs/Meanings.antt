@@ -8,11 +8,12 @@ use native.Mathlib.Omega.{arith}
 use borrow.Author.Tests.{eqb-true, eqb-false, eq-eqb, ne-eqb, lt-leb}
 use lib.Dec.{eqb, leb}
 use lib.IntN.{subℕ}
-use Rattle.rules.specs.Piece.{kindOf, byteA, byteB, byteC, isKind, tempoValue, bendValue, isOn, isOff, wellFormed}
+use Rattle.rules.specs.Piece.{kindOf, byteA, byteB, byteC, isKind, tempoValue, isOn, isOff, wellFormed}
+use Rattle.rules.specs.Piece.{upperFigure, lowerFigure, signedFifths, isMinor, bendValue}
 use Rattle.rules.specs.Standard.{Meaning, noteOff, noteOn, keyPressure, controlChange, programChange, channelPressure, pitchBend, setTempo}
 use Rattle.rules.specs.Standard.{timeSignature, keySignature, sequencerSpecific, endOfTrack, otherMeta, systemExclusive, unknown}
 use Rattle.rules.specs.Standard.{noteOnOrOff, bigEndian}
-use Rattle.rules.specs.Meanings.{meaningOf, meaning, ReadAsStandard}
+use Rattle.rules.specs.Meanings.{markerData, meaningOf, meaning, ReadAsStandard}
 use Rattle.rules.proofs.Cases.{by-bool, by-or}
 
 -- the kind that a meaning has in the table; 15 is none
@@ -172,6 +173,18 @@ module _ (w : ℕ) where
   unfolding meaningOf
   tempo-is h = let bytes : bigEndian (byteA w ∷ byteB w ∷ byteC w ∷ []) ≡ tempoValue w = omega arith in of-kind 2 h ∙ ap setTempo bytes
 
+  meter-is : isKind 3 w ≡ true → meaning w ≡ timeSignature (upperFigure w) (lowerFigure w)
+  unfolding meaningOf
+  meter-is = of-kind 3
+
+  key-is : isKind 4 w ≡ true → meaning w ≡ keySignature (signedFifths w) (isMinor w)
+  unfolding meaningOf
+  key-is = of-kind 4
+
+  marker-is : isKind 5 w ≡ true → meaning w ≡ sequencerSpecific (markerData (byteA w) (byteB w))
+  unfolding meaningOf
+  marker-is = of-kind 5
+
   bend-is : isKind 14 w ≡ true → meaning w ≡ pitchBend (byteA w) (bendValue w)
   unfolding meaningOf
   bend-is h =
@@ -189,9 +202,9 @@ module _ (w : ℕ) where
         other = (λ e. only otherMeta refl e .0, of-kind 0);
         system = (λ e. only systemExclusive refl e .0, of-kind 1);
         tempo = λ v. (λ e. let s = only (setTempo v) refl e in let is = tempo-is (s .0) in (s .0, cc), λ h. rw (h .1) (tempo-is (h .0)));
-        meter = λ u l. (λ e. let s = only (timeSignature u l) refl e in (s .0, cc, cc), λ h. rw (h .1, h .2) (of-kind 3 (h .0)));
-        key = λ f m. (λ e. let s = only (keySignature f m) refl e in (s .0, cc, cc), λ h. rw (h .1, h .2) (of-kind 4 (h .0)));
-        marker = λ bs. (λ e. let s = only (sequencerSpecific bs) refl e in (s .0, cc), λ h. rw (h .1) (of-kind 5 (h .0)));
+        meter = λ u l. (λ e. let s = only (timeSignature u l) refl e in let is = meter-is (s .0) in (s .0, cc, cc), λ h. rw (h .1, h .2) (meter-is (h .0)));
+        key = λ f m. (λ e. let s = only (keySignature f m) refl e in let is = key-is (s .0) in (s .0, cc, cc), λ h. rw (h .1, h .2) (key-is (h .0)));
+        marker = λ bs. (λ e. let s = only (sequencerSpecific bs) refl e in let is = marker-is (s .0) in (s .0, cc), λ h. rw (h .1) (marker-is (h .0)));
         end = (λ e. only endOfTrack refl e .0, of-kind 6);
         off = λ ch k v. (
           λ e. let t = eight-named (kindOf w) (byteC w) (word-named (noteOff ch k v) e) in let is = off-is t in (t, cc, cc, cc),
