@@ -1,20 +1,13 @@
 -- Cases on a test and on an order, multiples of a number, and the order of a number that is composed of two.
 use Prim.Native.Nat.{ℕ, zero, suc, _+_, _*_, _≤_, _<_, _∣_, min, max}
-use mathlib.Core.Bool.{Bool, true, false, _&&_, _||_}
+use mathlib.Core.Bool.{_&&_, _||_}
 use mathlib.Core.Logic.{_⊎_, inl, inr, ⊎-elim}
-use mathlib.Core.Path.{_≡_, refl}
+use mathlib.Core.Path.{_≡_}
 use native.Mathlib.Nat.{min-eq-left, min-eq-right, max-eq-left, max-eq-right}
 use native.Mathlib.Omega.{arith}
 use borrow.Author.Tests.{leb-true, leb-false, ltb-true, ltb-false, eqb-true, eqb-false, le-leb, lt-leb, lt-ltb, le-ltb, eq-eqb, ne-eqb}
 use lib.Dec.{leb, ltb, eqb}
-
-pub by-bool : (b : Bool) → (b ≡ true) ⊎ (b ≡ false)
-by-bool true = inl refl
-by-bool false = inr refl
-
-pub by-or : (a b : Bool) → a || b ≡ true → (a ≡ true) ⊎ (b ≡ true)
-by-or true b h = inl refl
-by-or false b h = inr h
+pub use Rattle.rules.proofs.Cases.{by-bool, by-or}
 
 module _ (m n : ℕ) where
   pub by-le : (m ≤ n) ⊎ (n < m)

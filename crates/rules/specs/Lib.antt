@@ -1,6 +1,7 @@
 pub mod Lists
 pub mod Standard
 pub mod Piece
+pub mod Meanings
 pub mod RawNotes
 pub mod Changes
 pub mod Bars

@@ -1,1 +1,2 @@
-// Document 01 as definitions. There is no code here: specs/ holds them, one file a section.
+// Document 01 as definitions: specs/ holds them, one file a section. There is no code here. proofs/ shows that the table of kinds reads each word
+// as the two standards mean it.
