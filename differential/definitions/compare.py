@@ -7,7 +7,8 @@ Run from differential/, after `cargo build --release --offline`. Pieces of at mo
 bars are taken. Each becomes two theorems, proved by computing both sides: heads, part heads, bars, staffs, automation,
 diagnostics and refusals of the definitions equal what the reference gave; and the proof-reader's answers to each part's
 staff, as engraved and changed, equal the plain proof-reader's. The theorems stand in a crate of their own below target/,
-over a copy of crates/rules. Leaves with status 1 where one does not hold, else prints how often each answer was wanted.
+over a copy of crates/rules; `holdsN` and `readsN` are those of piece N. Leaves with status 1 where one does not hold, else
+prints how often each answer of the proof-reader was wanted.
 """
 import pathlib
 import shutil
@@ -70,9 +71,9 @@ UNFOLDED = """keep any every position changeFirst insert sortBy sum flatMap flat
     voiceIn barsFrom endOfPiece barsUpTo printedFrom marksFrom cancelled sameMessages isDropped automationLists inTracks
     diagnostics unless eventRefusals pieceRefusals"""
 
-READING = """keep any every insert sortBy below sum flatMap sizesAgree wellFormed timed cutTracks withoutOldest pairOne rawNotesOf
-    mostNotes grid isOffGrid twos barsFrom endOfPiece barsUpTo readItems cutBy byFours timedFrom voiceTimed heardAfter full? tied?
-    endsMeant? right? shaped? even? unless eventRefusals pieceRefusals"""
+READING = """keep any every insert sortBy below sum flatMap sizesAgree wellFormed timed cutTracks withoutOldest pairOne
+    rawNotesOf mostNotes grid isOffGrid twos barsFrom endOfPiece barsUpTo readItems cutBy byFours timedFrom voiceTimed
+    heardAfter full? tied? endsMeant? right? shaped? even? unless eventRefusals pieceRefusals"""
 
 KINDS = ["bend", "controller", "program", "pressure"]
 
@@ -176,10 +177,12 @@ def theorems(index, piece, text, read):
     """A piece, and its two theorems; `read` gives the rows of its staffs."""
     name = f"piece{index}"
     sizes, deltas, words = (line.split() for line in piece.splitlines()[:3])
+    holds = equation(f"holds{index}", rows(name, text), f"{name} {UNFOLDED}")
+    reads = equation(f"reads{index}", read(name), f"{name} {READING}")
     return f"""
 {name} : Piece
 {name} = record {{ sizes = {listed(sizes)}; deltas = {listed(deltas)}; words = {listed(words)} }}
-{equation(f"holds{index}", rows(name, text), f"{name} {UNFOLDED}")}{equation(f"reads{index}", read(name), f"{name} {READING}")}"""
+{holds}{reads}"""
 
 
 def ask(*arguments, given=None):

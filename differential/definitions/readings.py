@@ -1,7 +1,7 @@
 """Section 8: what the definitions are asked about a piece's staffs, and what the plain proof-reader answered."""
 import collections
 
-# Changed staffs of each part; a staff of more numbers is left out.
+# Changed staffs of each part, and the most numbers that the arrays of one may have.
 CHANGES = 6
 MOST_NUMBERS = 1000
 
@@ -16,17 +16,12 @@ def listed(numbers):
 
 
 def staffs(lines):
-    """The staffs of the lines behind `work`, four lines each: no staff twice in a part, and none too long."""
-    found, seen = [], set()
+    """The staffs of the lines behind `work`, four lines each."""
     for first, *arrays in zip(*[iter(lines)] * 4):
         facts, change = first.split(" change ")
         _, part, _, number, _, right, _, point = facts.split()
-        counts, heads, keys = ([int(n) for n in line.split()[1:]] for line in arrays)
-        asked = (part, *map(tuple, (counts, heads, keys)))
-        if asked not in seen and len(counts) + len(heads) + len(keys) <= MOST_NUMBERS:
-            found.append(Staff(int(part), int(number), int(right), point, change, counts, heads, keys))
-        seen.add(asked)
-    return found
+        arrays = (tuple(int(n) for n in line.split()[1:]) for line in arrays)
+        yield Staff(int(part), int(number), int(right), point, change, *arrays)
 
 
 def misfits(staff, bars):
@@ -41,25 +36,38 @@ class Readings:
     """The rows of each piece, and how often each answer was wanted."""
 
     def __init__(self):
-        self.numbers, self.engraved, self.changed = (collections.Counter() for _ in range(3))
-        self.points, self.misfits, self.alone, self.kinds = (collections.Counter() for _ in range(4))
+        self.engraved, self.changed, self.kinds, self.left_out = (collections.Counter() for _ in range(4))
+        self.points, self.misfits, self.alone, self.numbers = (collections.Counter() for _ in range(4))
 
     def rows(self, name, text, bars):
         """What is asked about a piece, and what the plain proof-reader answered."""
         first, *lines = text.splitlines()
         word, number = first.split()
-        call = lambda part, staff, work: f"reading (proofReadCall {name} {part} (staff {staff}) {work})"
+        call = lambda part, arrays, work: f"reading (proofReadCall {name} {part} (staff {arrays}) {work})"
         if word == "refused":
             return [self.turned_back(call(0, "[] [] []", 100000), int(number))]
-        work, out = int(number), []
-        for staff in staffs(lines):
+        work, out, parts = int(number), [], 0
+        for staff in self.taken(staffs(lines)):
             arrays = " ".join(f"({listed(array)})" for array in (staff.counts, staff.heads, staff.keys))
             out.append((call(staff.part, arrays, work), [staff.number, staff.right]))
             self.count(staff, bars)
             if staff.change == "none":
+                parts += 1
                 out.append(self.turned_back(call(staff.part, arrays, work - 1), 8))
-        out.append(self.turned_back(call(int(lines[-4].split()[1]) + 1, "[] [] []", work), 7))
-        return out
+        return out + [self.turned_back(call(parts, "[] [] []", work), 7)]
+
+    def taken(self, given):
+        """The engraved staffs, and the changed ones that are not long and that the part does not have already."""
+        seen = set()
+        for staff in given:
+            arrays = staff.part, staff.counts, staff.heads, staff.keys
+            if arrays in seen:
+                self.left_out["there already"] += 1
+            elif staff.change != "none" and sum(map(len, arrays[1:])) > MOST_NUMBERS:
+                self.left_out["long"] += 1
+            else:
+                seen.add(arrays)
+                yield staff
 
     def turned_back(self, asked, number):
         self.numbers[number] += 1
@@ -67,22 +75,27 @@ class Readings:
 
     def count(self, staff, bars):
         answer = "9" if staff.number == 9 else ["no", "yes"][staff.right]
-        (self.engraved if staff.change == "none" else self.changed)[answer] += 1
-        if answer != "no":
+        if staff.change == "none":
+            self.engraved[answer] += 1
             return
-        self.points[staff.point] += 1
-        wrong = misfits(staff, bars)
-        self.misfits.update(wrong)
-        self.alone.update(wrong if len(wrong) == 1 else [])
+        self.changed[answer] += 1
+        self.kinds[staff.change] += 1
+        if answer == "no":
+            self.points[staff.point] += 1
+            wrong = misfits(staff, bars)
+            self.misfits.update(wrong)
+            self.alone.update(wrong if len(wrong) == 1 else [])
 
     def __str__(self):
-        told = lambda counter, names: ", ".join(f"{name} {counter[name]}" for name in names)
+        told = lambda counter, names: "; ".join(f"{name} {counter[name]}" for name in names)
         answers = ["yes", "no", "9"]
-        both = [f"{name} {self.misfits[name]} (alone {self.alone[name]})" for name in MISFITS]
+        malformed = [f"{name} {self.misfits[name]}, alone {self.alone[name]}" for name in MISFITS]
         return "\n".join([
             f"engraved staffs: {told(self.engraved, answers)}",
-            f"changed staffs: {sum(self.changed.values())}, {told(self.changed, answers)}",
-            f"no, by the first point that fails: {told(self.points, POINTS)}",
-            f"malformed, by what is wrong: {', '.join(both)}",
-            f"turned back before 9, by number: {told(self.numbers, sorted(self.numbers))}",
+            f"changed staffs: {told(self.changed, answers)}",
+            f"no by the first point that fails: {told(self.points, POINTS)}",
+            f"malformed by what is wrong: {'; '.join(malformed)}",
+            f"turned back before 9 by number: {told(self.numbers, sorted(self.numbers))}",
+            f"by kind of change: {told(self.kinds, sorted(self.kinds))}",
+            f"changed staffs left out: {told(self.left_out, sorted(self.left_out))}",
         ])
