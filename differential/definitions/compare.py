@@ -4,14 +4,18 @@
     python3 definitions/compare.py SEED COUNT [MOST_EVENTS]
 
 Run from differential/, after `cargo build --release --offline`. Pieces of at most MOST_EVENTS events (default 45) and 60
-bars are taken. Each becomes a theorem, proved by computing both sides: heads, part heads, bars, staffs, automation,
-diagnostics and refusals of the definitions equal what the reference gave. The theorems stand in a crate of their own below
-target/, over a copy of crates/rules. Leaves with status 1 where one does not hold.
+bars are taken. Each becomes two theorems, proved by computing both sides: heads, part heads, bars, staffs, automation,
+diagnostics and refusals of the definitions equal what the reference gave; and the proof-reader's answers to each part's
+staff, as engraved and changed, equal the plain proof-reader's. The theorems stand in a crate of their own below target/,
+over a copy of crates/rules; `holdsN` and `readsN` are those of piece N. Leaves with status 1 where one does not hold, else
+prints how often each answer of the proof-reader was wanted.
 """
 import pathlib
 import shutil
 import subprocess
 import sys
+
+from readings import CHANGES, Readings, listed
 
 HERE = pathlib.Path(__file__).resolve().parent.parent
 REFERENCE = HERE / "target/release/differential"
@@ -19,22 +23,25 @@ FOLDER = HERE / "target/definitions"
 
 HEADER = """-- Written by differential/definitions/compare.py: the definitions computed on generated pieces.
 use Prim.Native.Nat.{ℕ}
+use mathlib.Core.Bool.{Bool}
 use mathlib.Core.List.{List, [], _∷_, _++_, flatMap, flatten}
 use mathlib.Core.Path.{_≡_, refl}
-use Rattle.rules.specs.Lists.{keep, any, every, position, changeFirst, insert, sortBy, sum}
+use Rattle.rules.specs.Lists.{keep, any, every, position, changeFirst, insert, sortBy, below, sum, flag}
 use Rattle.rules.specs.Piece.{Piece, Event, timed, cutTracks, sizesAgree, wellFormed, ticksPerQuarter}
 use Rattle.rules.specs.RawNotes.{withoutOldest, pairOne, rawNotesOf, parts, mostNotes}
 use Rattle.rules.specs.Changes.{partHead, head}
 use Rattle.rules.specs.Bars.{barsFrom, endOfPiece, barsUpTo, starts, printedFrom, marksFrom, marks, keyBits}
 use Rattle.rules.specs.Grid.{isOffGrid, grid}
 use Rattle.rules.specs.Voices.{joinOrOpen, choose, place, voices}
-use Rattle.rules.specs.Values.{values, splitIn}
+use Rattle.rules.specs.Values.{values, splitIn, twos}
 use Rattle.rules.specs.Staff.{pieces, filled, voiceIn}
-use Rattle.rules.specs.Items.{StaffArrays}
+use Rattle.rules.specs.Items.{StaffArrays, readItems, cutBy, byFours}
+use Rattle.rules.specs.ProofReader.{timedFrom, voiceTimed, heardAfter}
+use Rattle.rules.specs.ProofReaderTests.{full?, tied?, endsMeant?, right?, shaped?, even?}
 use Rattle.rules.specs.Automation.{cancelled, sameMessages, isDropped, AutomationLists, automationLists}
 use Rattle.rules.specs.Diagnostics.{inTracks, diagnostics}
 use Rattle.rules.specs.Refusals.{Result, refused, given as answer, unless, eventRefusals, pieceRefusals}
-use Rattle.rules.specs.Calls.{partArrays, headCall, diagnosticsCall, places, details, partTrack}
+use Rattle.rules.specs.Calls.{partArrays, headCall, diagnosticsCall, places, details, partTrack, proofReadCall}
 use Rattle.rules.specs.Examples.{Row, row, given, wanted}
 
 abbrev numberOf : {A : Type 0} → Result A → ℕ
@@ -50,6 +57,13 @@ partHeads (p ∷ ps) = partHead p .channel ∷ partHead p .program ∷ partHeads
 
 abbrev automationRow : AutomationLists → List ℕ
 automationRow a = a .bends ∷ a .controllers ∷ a .programs ∷ a .pressures ∷ (a .ticks ++ a .words)
+
+abbrev staff : List ℕ → List ℕ → List ℕ → StaffArrays
+staff counts heads keys = record { counts = counts; heads = heads; keys = keys }
+
+abbrev reading : Result Bool → List ℕ
+reading (refused n) = n ∷ 0 ∷ []
+reading (answer right) = 0 ∷ flag right ∷ []
 """
 
 UNFOLDED = """keep any every position changeFirst insert sortBy sum flatMap flatten sizesAgree wellFormed timed cutTracks
@@ -57,11 +71,11 @@ UNFOLDED = """keep any every position changeFirst insert sortBy sum flatMap flat
     voiceIn barsFrom endOfPiece barsUpTo printedFrom marksFrom cancelled sameMessages isDropped automationLists inTracks
     diagnostics unless eventRefusals pieceRefusals"""
 
+READING = """keep any every insert sortBy below sum flatMap sizesAgree wellFormed timed cutTracks withoutOldest pairOne
+    rawNotesOf mostNotes grid isOffGrid twos barsFrom endOfPiece barsUpTo readItems cutBy byFours timedFrom voiceTimed
+    heardAfter full? tied? endsMeant? right? shaped? even? unless eventRefusals pieceRefusals"""
+
 KINDS = ["bend", "controller", "program", "pressure"]
-
-
-def listed(numbers):
-    return "".join(f"{n} ∷ " for n in numbers) + "[]"
 
 
 def key_bits(text):
@@ -148,19 +162,27 @@ def rows(name, text):
     return out
 
 
-def theorem(index, piece, text):
+def equation(name, rows, unfolded):
+    """The theorem of a table of rows, computed on both sides."""
+    # the table stands in the statement itself: as a definition of its own it computes far longer
+    table = "".join(f"row ({g}) ({listed(w)}) ∷ " for g, w in rows) + "[]"
+    return f"""
+{name} : given ({table}) ≡ wanted ({table})
+unfolding {unfolded}
+{name} = refl
+"""
+
+
+def theorems(index, piece, text, read):
+    """A piece, and its two theorems; `read` gives the rows of its staffs."""
     name = f"piece{index}"
     sizes, deltas, words = (line.split() for line in piece.splitlines()[:3])
-    # the table stands in the statement itself: as a definition of its own it computes far longer
-    table = "".join(f"row ({g}) ({listed(w)}) ∷ " for g, w in rows(name, text)) + "[]"
+    holds = equation(f"holds{index}", rows(name, text), f"{name} {UNFOLDED}")
+    reads = equation(f"reads{index}", read(name), f"{name} {READING}")
     return f"""
 {name} : Piece
 {name} = record {{ sizes = {listed(sizes)}; deltas = {listed(deltas)}; words = {listed(words)} }}
-
-holds{index} : given ({table}) ≡ wanted ({table})
-unfolding {name} {UNFOLDED}
-holds{index} = refl
-"""
+{holds}{reads}"""
 
 
 def ask(*arguments, given=None):
@@ -170,15 +192,17 @@ def ask(*arguments, given=None):
 def main():
     seed, count = sys.argv[1], int(sys.argv[2])
     most = int(sys.argv[3]) if len(sys.argv) > 3 else 45
-    theorems = []
+    found, readings = [], Readings()
     for index in range(count):
         piece = ask("piece", seed, str(index))
         arrays = piece.split("\n")
         if len(arrays[1].split()) > most or len(arrays[0].split()) > 40:
             continue
         text = ask("show", given=piece)
-        if text.count("\nbar ") <= 60:
-            theorems.append(theorem(index, piece, text))
+        bars = text.count("\nbar ")
+        if bars <= 60:
+            staffs = ask("staffs", seed, str(index), str(CHANGES))
+            found.append(theorems(index, piece, text, lambda name: readings.rows(name, staffs, bars)))
     crate = FOLDER / "crates/computed"
     shutil.rmtree(FOLDER / "crates", ignore_errors=True)
     shutil.copytree(HERE.parent / "crates/rules", FOLDER / "crates/rules")
@@ -187,12 +211,13 @@ def main():
     (FOLDER / "crates.txt").write_text("rules:\ncomputed: rules\n")
     (crate / "src/lib.rt").write_text("// No code: specs/ holds computed theorems.\n")
     (crate / "specs/Lib.antt").write_text("pub mod Computed\n")
-    (crate / "specs/Computed.antt").write_text(HEADER + "".join(theorems))
+    (crate / "specs/Computed.antt").write_text(HEADER + "".join(found))
     run = subprocess.run(["rt", "check", "computed"], cwd=FOLDER, capture_output=True, text=True)
     if run.returncode != 0:
         print((run.stdout + run.stderr)[:4000])
         sys.exit(1)
-    print(f"{len(theorems)} pieces of seed {seed}: the definitions computed to the reference's answers")
+    print(f"{len(found)} pieces of seed {seed}: the definitions computed to the reference's answers")
+    print(readings)
 
 
 if __name__ == "__main__":

@@ -24,4 +24,5 @@ pub mod reference;
 pub mod refusals;
 pub mod shrink;
 pub mod spelling;
+pub mod staffs;
 pub mod text;

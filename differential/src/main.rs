@@ -12,7 +12,7 @@ use differential::piece::Piece;
 use differential::proofread::{self, Library};
 #[cfg(feature = "library")]
 use differential::{arbitrary, bench, compare, shrink};
-use differential::{generate, list, reference, text};
+use differential::{generate, list, reference, staffs, text};
 use std::io::Read;
 use std::process::ExitCode;
 
@@ -23,6 +23,7 @@ const USAGE: &str = "usage: differential COMMAND
   generate SEED COUNT  the reference over generated pieces
   piece SEED INDEX     one generated piece
   short SEED INDEX     one of the short pieces of `sweep`
+  staffs SEED INDEX CHANGES  a generated piece's staffs, engraved and changed, with the plain proof-reader's answers
   list SEED COUNT      a list of the reference's answers for the program `replay`; coverage on the standard error
   compare SEED COUNT [SECONDS]    the proved library against the reference (feature `library`)
   sweep SEED COUNT [SECONDS]      short pieces in less time: most with exactly enough room alone (feature `library`)
@@ -46,6 +47,10 @@ fn main() -> ExitCode {
         }),
         ["short", seed, index] => number(seed).and_then(|seed| {
             print!("{}", generate::short(seed, number(index)?).print());
+            Ok(())
+        }),
+        ["staffs", seed, index, changes] => number(seed).and_then(|seed| {
+            print!("{}", staffs::text(seed, number(index)?, number(changes)?));
             Ok(())
         }),
         ["list", seed, count] => number(seed).and_then(|seed| {

@@ -1,6 +1,6 @@
 //! The answers in the array layouts of document 01, to be compared with lent arrays.
 
-use crate::answers::{self, Bar, Diagnostic, Item, Measure};
+use crate::answers::{self, Bar, Diagnostic, Import, Item, Measure};
 
 /// Section 4.
 #[derive(Debug, Clone, Default, PartialEq, Eq)]
@@ -60,6 +60,12 @@ fn mark(bar: &Bar) -> u64 {
         | u64::from(bar.tempo.unwrap_or(0)) << 17
         | fifths << 27
         | u64::from(minor) << 32
+}
+
+/// The staff of each part.
+pub fn staffs(import: &Import) -> Vec<Staff> {
+    let parts = import.parts.iter();
+    parts.map(|part| staff(&part.staff)).collect()
 }
 
 pub fn staff(staff: &[Measure]) -> Staff {

@@ -18,14 +18,10 @@ impl Asked for StandIn {
     fn about(piece: &Piece) -> Self {
         let import = reference::import(piece).ok();
         let bars = import.as_ref().map(|import| packed::bars(&import.bars));
-        let parts = import.as_ref().map_or(&[][..], |import| &import.parts);
         Self {
             piece: piece.clone(),
             parts: bars.map_or(vec![], |bars| reader::parts(piece, &bars)),
-            staffs: parts
-                .iter()
-                .map(|part| packed::staff(&part.staff))
-                .collect(),
+            staffs: import.as_ref().map_or(vec![], packed::staffs),
         }
     }
 

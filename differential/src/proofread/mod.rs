@@ -29,6 +29,11 @@ pub trait Asked {
     fn reading(&self, part: u32, staff: &Staff, work: usize) -> Result<[u32; 2], String>;
 }
 
+/// What the staffs of a piece are changed by.
+pub fn random(seed: u64, index: u64) -> Random {
+    Random::new(!seed ^ index.wrapping_mul(0xd134_2543_de82_ef95))
+}
+
 /// The pieces of a seed, one after the other.
 pub struct Run {
     seed: u64,
@@ -52,10 +57,9 @@ impl Run {
     pub fn next<A: Asked>(&mut self) -> Checked {
         let Self { seed, index, .. } = *self;
         let piece = generate::numbered(seed, index);
-        let random = || Random::new(!seed ^ index.wrapping_mul(0xd134_2543_de82_ef95));
         let compare = |piece: &Piece, tally: &mut Tally| {
             named(seed, index, || {
-                case::piece::<A>(piece, random(), &self.another, tally)
+                case::piece::<A>(piece, random(seed, index), &self.another, tally)
             })
         };
         let staffs = compare(&piece, &mut self.tally)?.map_err(|what| {
