@@ -76,7 +76,8 @@ module _ (x : Piece) (k : ℕ) where
   keys-used = sym (keys-length (itemsOf (partStaff x (partTrack x k))))
 
   -- 9 alone is left of the proof-reader's numbers where the others let the part pass
-  pub nine-left : (work : ℕ) → Passes (partRefusals x k) → workNeeded x ≤ work → proofReadCall x k (partArrays x k) work ≡ unless (unevenPart (partEven x k) ∷ []) true
+  nine-left : (work : ℕ) → Passes (partRefusals x k) → workNeeded x ≤ work
+      → proofReadCall x k (partArrays x k) work ≡ unless (unevenPart (partEven x k) ∷ []) true
   nine-left work part enough =
       engraved-yes x k work
       ∙ passes-append (partRefusals x k) _ true part
@@ -115,7 +116,7 @@ module _ (x : Piece) (k : ℕ) {counts₀ heads₀ keys₀ work₀ counts₁ hea
       passed : Passes (partRefusals x k ++ short) × (s ≡ partSize x k)
       passed = given-passes (λ (s : StaffArrays). partSize x k) (partArrays x k) (partRefusals x k ++ short) s (h ∙ engraved .answered)
 
-      pub part-passes : Passes (partRefusals x k)
+      part-passes : Passes (partRefusals x k)
       part-passes = All-left _ (partRefusals x k) short (passed .0)
 
       rooms : Passes short

@@ -65,6 +65,8 @@ pub record Room (size : StaffSize) (lent : StaffArrays) : Type 0 where
   pub heads : size .items ≤ length (lent .heads)
   pub keys : 2 * size .items ≤ length (lent .keys)
 
+-- ---- the demand
+
 pub record Demand3 : Type 0 where
   -- Two parties that share only one part's raw notes, the division and the bars: nothing else decides the answer, or what is written.
   pub shared-read : (x y : Piece) (k j : ℕ) (s : StaffArrays) (work₀ work₁ area₀ area₁ : List ℕ) (answer other : Result Bool) → Shares x k y j
