@@ -8,7 +8,7 @@ use native.Mathlib.Omega.{arith}
 use borrow.Author.Tests.{eqb-true, eqb-false, eq-eqb, ne-eqb, not-true, leb-true, lt-ltb, le-ltb}
 use lib.Dec.{eqb, leb}
 use lib.IntN.{subℕ, pos, negsuc}
-use Rattle.rules.specs.Lists.{keep, All, firstOr, isEmpty}
+use Rattle.rules.specs.Lists.{keep, All, isEmpty}
 use Rattle.rules.specs.Piece.{Event, firstTrack, kindOf, byteA, byteB, byteC, isKind, wellFormed, tempoValue, isOn, isOff, channelOf}
 use Rattle.rules.specs.Standard.{Meaning}
 use Rattle.rules.specs.Meanings.{meaning, markerData, ReadAsStandard}
@@ -340,8 +340,8 @@ mirrored es bs ss m h b s =
 ons : IsRead OnOf (keep (λ e. isOn (e .word)))
 ons = is-kept OnOf (λ e. isOn (e .word)) (λ e t. rw (read e .on _ _ _ .1 (t, refl, refl, refl)) OnOf.on) on-given
 
-heads : IsRead ProgramOf (λ es. map headOf (keep (λ e. isKind 12 (e .word)) es))
-heads = is-read ProgramOf (λ e. isKind 12 (e .word)) headOf (λ e t. rw (read e .program _ _ .1 (t, refl, refl)) ProgramOf.program) program-given
+heads : (es : List Event) → Reads ProgramOf es (map headOf (keep (λ e. isKind 12 (e .word)) es))
+heads = reads ProgramOf (λ e. isKind 12 (e .word)) headOf (λ e t. rw (read e .program _ _ .1 (t, refl, refl)) ProgramOf.program) program-given
 
 pub by-meaning : ByMeaning
 by-meaning =
@@ -352,7 +352,7 @@ by-meaning =
       tempos = is-read TempoOf _ _ tempo-taken tempo-given;
       meters = is-read MeterOf (λ e. isKind 3 (e .word)) _ (λ e t. rw (read e .meter _ _ .1 (t, refl, refl)) MeterOf.meter) meter-given;
       keys = is-read KeyOf (λ e. isKind 4 (e .word)) _ (λ e t. rw (read e .key _ _ .1 (t, refl, refl)) KeyOf.key) key-given;
-      part-head = λ es xs r. ap (firstOr _) (sym (heads es xs .0 r));
+      part-head = λ es. (_, heads es, refl);
       bends = λ es. kept Bend isBend bend-taken bend-given (isDropped es) es;
       controllers = λ es. kept Controller isController controller-taken controller-given (isDropped es) es;
       programs = λ es. kept Program isProgram program-taken program-on (isDropped es) es;

@@ -117,7 +117,7 @@ pub record ByMeaning : Type 0 where
   pub tempos : IsRead TempoOf tempoChanges
   pub meters : IsRead MeterOf meterChanges
   pub keys : IsRead KeyOf keyChanges
-  pub part-head : (es : List Event) (xs : List PartHead) → Reads ProgramOf es xs → partHead es ≡ firstOr (record { channel = 0; program = 0 }) xs
+  pub part-head : (es : List Event) → (xs : List PartHead) × Reads ProgramOf es xs × (partHead es ≡ firstOr (record { channel = 0; program = 0 }) xs)
   pub bends : (es xs : List Event) → Reads (Kept Bend (isDropped es)) es xs ↔ (xs ≡ automation isBend es)
   pub controllers : (es xs : List Event) → Reads (Kept Controller (isDropped es)) es xs ↔ (xs ≡ automation isController es)
   pub programs : (es xs : List Event) → Reads (Kept Program (isDropped es)) es xs ↔ (xs ≡ automation isProgram es)
