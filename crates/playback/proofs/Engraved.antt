@@ -7,7 +7,7 @@ use mathlib.Core.Option.{Option, none, some}
 use mathlib.Core.Path.{_≡_, refl, _∙_}
 use native.Mathlib.Nat.{dvd-add, dvd-zero}
 use native.Mathlib.Omega.{arith}
-use lib.ListN.{length, length-map}
+use lib.ListN.{length}
 use Rattle.rules.specs.Lists.{All, sum, keep, any, lastOr}
 use Rattle.rules.specs.Bars.{Bar, barEnd, lastBarEnd}
 use Rattle.rules.specs.Items.{Item}

@@ -4,15 +4,15 @@ use mathlib.Core.List.{List, [], _∷_, _++_, map, flatMap}
 use mathlib.Core.Option.{Option, none, some}
 use lib.Dec.{eqb}
 use mathlib.Core.Path.{_≡_, refl}
-use Rattle.rules.specs.Lists.{keep, any, insert, sortBy, flag, sum}
-use Rattle.rules.specs.Piece.{Piece, ticksPerQuarter, timed, cutTracks, firstTrack, wellFormed, sizesAgree}
+use Rattle.rules.specs.Lists.{keep, any, insert, sortBy, flag}
+use Rattle.rules.specs.Piece.{Piece, ticksPerQuarter, timed, cutTracks, firstTrack, wellFormed}
 use Rattle.rules.specs.RawNotes.{withoutOldest, pairOne, rawNotesOf}
 use Rattle.rules.specs.Changes.{Key, Head, head, PartHead, partHead}
 use Rattle.rules.specs.Bars.{barsFrom, endOfPiece, barsUpTo, starts, printedFrom, marksFrom, marks}
 use Rattle.rules.specs.Automation.{AutomationLists, automationLists, cancelled, sameMessages, isDropped}
 use Rattle.rules.specs.Diagnostics.{Diagnostic, diagnostics, inTracks}
 use Rattle.rules.specs.Calls.{places, details}
-use Rattle.rules.specs.Examples.{Row, row, one, given, wanted, signed}
+use Rattle.rules.specs.Examples.{Row, row, given, wanted, signed}
 use Rattle.rules.specs.FurtherExamples.{word, oneTrack}
 
 -- ---- section 1: the table of kinds at its edges

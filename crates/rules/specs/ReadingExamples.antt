@@ -14,7 +14,7 @@ use Rattle.rules.specs.ProofReader.{timedFrom, voiceTimed, heardAfter}
 use Rattle.rules.specs.ProofReaderTests.{full?, tied?, endsMeant?, right?, shaped?, even?}
 use Rattle.rules.specs.Refusals.{Result, refused, given as answered, unless, eventRefusals, pieceRefusals}
 use Rattle.rules.specs.Calls.{proofReadCall}
-use Rattle.rules.specs.Examples.{Row, row, one, given, wanted}
+use Rattle.rules.specs.Examples.{Row, one, given, wanted}
 use Rattle.rules.specs.FurtherExamples.{word, oneTrack, printedPiece, lateNote}
 
 -- 1 yes, 0 no; a refusal is its number and 100

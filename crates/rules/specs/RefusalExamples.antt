@@ -15,12 +15,13 @@ use Rattle.rules.specs.Values.{values, splitIn, twos}
 use Rattle.rules.specs.Items.{StaffArrays}
 use Rattle.rules.specs.Staff.{pieces, filled, voiceIn}
 use Rattle.rules.specs.ProofReaderTests.{even?}
+use Rattle.rules.specs.Automation.{automationLists, cancelled, sameMessages, isDropped}
 use Rattle.rules.specs.Diagnostics.{inTracks, diagnostics}
 use Rattle.rules.specs.Refusals.{Result, refused, given as answered, unless, eventRefusals, pieceRefusals}
 use Rattle.rules.specs.Calls.{headCall, partCountCall, partHeadCall, barsCall, staffSizeCall, engraveCall, automationCall, diagnosticsCall, proofReadCall}
 use Rattle.rules.specs.Calls.{beatsCall, spellingCall}
-use Rattle.rules.specs.Examples.{Row, row, one, given, wanted}
-use Rattle.rules.specs.FurtherExamples.{word, oneTrack, printedPiece}
+use Rattle.rules.specs.Examples.{Row, one, given, wanted}
+use Rattle.rules.specs.FurtherExamples.{word, printedPiece}
 
 -- a call's number, 0 where it is answered
 abbrev pub numberOf : {A : Type 0} → Result A → ℕ
@@ -92,6 +93,9 @@ refusals =
     ∷ one (numberOf (engraveCall printedPiece 0 4 1 4 4112)) 8
     ∷ one (numberOf (engraveCall printedPiece 0 4 2 3 4112)) 8
     ∷ one (numberOf (engraveCall printedPiece 1 0 0 0 0)) 7
+    ∷ one (numberOf (automationCall (withWords (151010368 ∷ word 11 0 7 1 ∷ 0 ∷ [])) 0 1 1)) 0
+    ∷ one (numberOf (automationCall (withWords (151010368 ∷ word 11 0 7 1 ∷ 0 ∷ [])) 0 0 1)) 8
+    ∷ one (numberOf (automationCall (withWords (151010368 ∷ word 11 0 7 1 ∷ 0 ∷ [])) 0 1 0)) 8
     ∷ one (numberOf (diagnosticsCall (withWords (151010368 ∷ 0 ∷ 0 ∷ [])) 1 1 4112)) 0
     ∷ one (numberOf (diagnosticsCall (withWords (151010368 ∷ 0 ∷ 0 ∷ [])) 0 1 4112)) 8
     ∷ one (numberOf (diagnosticsCall (withWords (151010368 ∷ 0 ∷ 0 ∷ [])) 1 0 4112)) 8
@@ -111,7 +115,7 @@ refusals =
 pub refusals-hold : given refusals ≡ wanted refusals
 unfolding refusals keep any every position changeFirst insert sortBy sum flatMap flatten sizesAgree timed cutTracks wellFormed withoutOldest pairOne
     rawNotesOf mostNotes barsFrom endOfPiece barsUpTo printedFrom marksFrom isOffGrid grid joinOrOpen choose place voices values splitIn twos pieces
-    filled voiceIn even? inTracks diagnostics unless eventRefusals pieceRefusals
+    filled voiceIn even? automationLists cancelled sameMessages isDropped inTracks diagnostics unless eventRefusals pieceRefusals
 refusals-hold = refl
 
 -- 3: over 500,000 events, whatever their deltas and words: 3 comes before 4 and 5. 2 before it.
