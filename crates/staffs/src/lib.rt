@@ -157,6 +157,6 @@ pub fn engrave(
         heads,
         keys,
     );
-    basics::clear(work);
+    basics::clear(work); // and not the outputs
     answer(written)
 }
