@@ -1,20 +1,17 @@
 -- The bars call: how many bars there are, its outcome with this room, and what it leaves in the outputs.
-use Prim.Native.Nat.{ℕ, zero, suc, _+_, _≤_, _<_}
+use Prim.Native.Nat.{ℕ, _≤_, _<_}
 use mathlib.Core.Bool.{Bool}
 use mathlib.Core.List.{List, [], _∷_}
-use mathlib.Core.Logic.{inl, inr}
 use mathlib.Core.Path.{_≡_, refl, sym, ap, _∙_}
 use native.Mathlib.Omega.{arith}
 use borrow.Author.Tests.{lt-ltb, le-ltb}
 use lib.ListN.{length, length-map}
 use Rattle.rules.specs.Piece.{Piece, Event, firstTrack}
 use Rattle.rules.specs.Changes.{Change, Meter, Key, tempoChanges, keyChanges}
-use Rattle.rules.specs.Bars.{Bar, barLength, barsFrom, printed, printedFrom, marksFrom, startsOf, marksIn, mostBars, barsUpTo, bars, starts, marks}
+use Rattle.rules.specs.Bars.{Bar, printed, printedFrom, marksFrom, startsOf, marksIn, bars, starts, marks}
 use Rattle.rules.specs.Refusals.{Result, refused, given, unless, noteRefusals, asItIs}
 use Rattle.rules.specs.Calls.{BarLists, BarsCalled, barsCall}
 use Rattle.laws.specs.Admitted.{Passes}
-use Rattle.laws.proofs.BarLaws.{bars-none, bars-last, bars-more}
-use Rattle.laws.proofs.Order.{by-le}
 use Rattle.laws.proofs.Refusals.{passes-append}
 use Rattle.bar_walk.specs.Walk.{BarsAre}
 
@@ -40,19 +37,6 @@ marks-length es bs = marks-from (tempoChanges es) (keyChanges es) bs (printed bs
 
 starts-length : (bs : List Bar) → length (startsOf bs) ≡ length bs
 starts-length bs = length-map bs _
-
--- no more bars than the limit
-bars-few : (n p : ℕ) (m : ℕ → Meter) (end t : ℕ) → length (barsFrom n p m end t) ≤ n
-bars-few zero p m end t = rw (bars-none p m end t) (omega arith)
-bars-few (suc n) p m end t =
-    elim (by-le end (t + barLength p (m t))) [
-      | inl h ↦ rw (bars-last n p m end t h) (omega arith)
-      | inr h ↦ rw (bars-more n p m end t h) (omega (arith, bars-few n p m end (t + barLength p (m t))))
-    ]
-
-pub few-bars : (x : Piece) → length (bars x) ≤ mostBars
-unfolding barsUpTo
-few-bars x = bars-few mostBars _ _ _ 0
 
 -- a call that is refused leaves both outputs
 pub bars-refused : {r : Result BarLists} {starts₀ marks₀ : List ℕ} (n : ℕ) → r ≡ refused n

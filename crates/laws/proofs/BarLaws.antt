@@ -2,16 +2,18 @@
 use Prim.Native.Nat.{ℕ, zero, suc, _+_, _≤_, _<_}
 use mathlib.Core.Bool.{false}
 use mathlib.Core.List.{List, [], _∷_, map}
-use mathlib.Core.Logic.{inl, inr}
+use mathlib.Core.Logic.{_⊎_, inl, inr}
 use mathlib.Core.Path.{_≡_, refl, ap}
 use lib.ListN.{length, length-map}
 use native.Mathlib.Omega.{arith}
 use borrow.Author.Tests.{le-leb, lt-leb}
 use Rattle.rules.specs.Lists.{lastOr, sum, All}
+use Rattle.rules.specs.Piece.{Piece}
 use Rattle.rules.specs.Changes.{Meter}
-use Rattle.rules.specs.Bars.{Bar, barLength, barEnd, barsFrom, lastBarEnd}
+use Rattle.rules.specs.Bars.{Bar, barLength, barEnd, barsFrom, endOfPiece, barsUpTo, lastBarEnd}
 use Rattle.rules.specs.Voices.{Chord}
 use Rattle.rules.specs.Staff.{voiceIn, voicesIn}
+use Rattle.laws.specs.Claims.{BarsStop}
 use Rattle.laws.specs.Lines.{Consecutive}
 use Rattle.laws.proofs.Order.{by-lt}
 
@@ -47,6 +49,47 @@ bars-consecutive (suc n) p m end t =
       | inl h ↦ rw (bars-more n p m end t h) (refl, omega arith, bars-consecutive n p m end (t + barLength p (m t)))
       | inr h ↦ rw (bars-last n p m end t h) (refl, omega arith, tt)
     ]
+
+-- ---- where the bars stop
+
+-- no more bars than the limit
+bars-few : (n p : ℕ) (m : ℕ → Meter) (end t : ℕ) → length (barsFrom n p m end t) ≤ n
+bars-few zero p m end t = rw (bars-none p m end t) (omega arith)
+bars-few (suc n) p m end t =
+    elim (by-lt (t + barLength p (m t)) end) [
+      | inl h ↦ rw (bars-more n p m end t h) (omega (arith, bars-few n p m end (t + barLength p (m t))))
+      | inr h ↦ rw (bars-last n p m end t h) (omega arith)
+    ]
+
+-- with fewer the end is reached; d is the end of the bar before
+bars-reach : (n p : ℕ) (m : ℕ → Meter) (end t d : ℕ) → length (barsFrom n p m end t) < n → end ≤ lastOr d (map barEnd (barsFrom n p m end t))
+bars-reach zero p m end t d few = absurd (omega arith)
+bars-reach (suc n) p m end t d few =
+    elim (by-lt (t + barLength p (m t)) end) [
+      | inl h ↦
+          let fewer : length (barsFrom n p m end (t + barLength p (m t))) < n = omega (arith, rw (bars-more n p m end t h) at few) in
+          rw (bars-more n p m end t h) (bars-reach n p m end (t + barLength p (m t)) (t + barLength p (m t)) fewer)
+      | inr h ↦ rw (bars-last n p m end t h) h
+    ]
+
+-- a bar behind the first starts before the end
+bars-start : (n p : ℕ) (m : ℕ → Meter) (end t : ℕ) → (t ≡ 0) ⊎ (t < end)
+    → All (λ (b : Bar). (b .start ≡ 0) ⊎ (b .start < end)) (barsFrom n p m end t)
+bars-start zero p m end t first = rw (bars-none p m end t) tt
+bars-start (suc n) p m end t first =
+    elim (by-lt (t + barLength p (m t)) end) [
+      | inl h ↦ rw (bars-more n p m end t h) (first, bars-start n p m end (t + barLength p (m t)) (inr h))
+      | inr h ↦ rw (bars-last n p m end t h) (first, tt)
+    ]
+
+pub bars-stop : (x : Piece) → BarsStop x
+unfolding barsUpTo
+bars-stop x =
+    record {
+      most = bars-few 10000 _ _ _ 0;
+      reached = bars-reach 10000 _ _ (endOfPiece x) 0 0;
+      before = bars-start 10000 _ _ (endOfPiece x) 0 (inl refl);
+    }
 
 -- ---- the last bar's end
 

@@ -1,18 +1,21 @@
 -- A third table of examples: kinds at their edges, heads and marks, automation, diagnostics.
 use Prim.Native.Nat.{ℕ, _+_, _*_, _^_}
+use mathlib.Core.Bool.{true, false}
 use mathlib.Core.List.{List, [], _∷_, _++_, map, flatMap}
 use mathlib.Core.Option.{Option, none, some}
 use lib.Dec.{eqb}
+use lib.IntN.{pos, negsuc}
 use mathlib.Core.Path.{_≡_, refl}
 use Rattle.rules.specs.Lists.{keep, any, insert, sortBy, flag}
-use Rattle.rules.specs.Piece.{Piece, ticksPerQuarter, timed, cutTracks, firstTrack, wellFormed}
+use Rattle.rules.specs.Piece.{Piece, piece, ticksPerQuarter, timed, cutTracks, firstTrack, wellFormed}
 use Rattle.rules.specs.RawNotes.{withoutOldest, pairOne, rawNotesOf}
 use Rattle.rules.specs.Changes.{Key, Head, head, PartHead, partHead}
-use Rattle.rules.specs.Bars.{barsFrom, endOfPiece, barsUpTo, starts, printedFrom, marksFrom, marks}
+use Rattle.rules.specs.Bars.{barsFrom, endOfPiece, barsUpTo, starts, markOf, printedFrom, marksFrom, marks}
+use Rattle.rules.specs.Bars.{markUpper, markLower, markPrinted, markTempo, markFifths, markMinor}
 use Rattle.rules.specs.Automation.{AutomationLists, automationLists, cancelled, sameMessages, isDropped}
 use Rattle.rules.specs.Diagnostics.{Diagnostic, diagnostics, inTracks}
 use Rattle.rules.specs.Calls.{places, details}
-use Rattle.rules.specs.Examples.{Row, row, given, wanted, signed}
+use Rattle.rules.specs.Examples.{Row, row, given, wanted, signed, meter}
 use Rattle.rules.specs.FurtherExamples.{word, oneTrack}
 
 -- ---- section 1: the table of kinds at its edges
@@ -89,6 +92,14 @@ marked =
     ∷ word 8 0 60 0
     ∷ [])
 
+-- at 1 tick per quarter bars of 1/128 have one tick: a tempo at the second
+abbrev pub shortBars : Piece
+shortBars = piece (1 ∷ 1 ∷ 4 ∷ []) (0 ∷ 0 ∷ 1 ∷ 2 ∷ []) (word 3 1 7 0 ∷ word 9 0 60 64 ∷ (2 * 2 ^ 24 + 500000) ∷ word 8 0 60 0 ∷ [])
+
+-- a mark's fields, read back: figures, printed, tempo, fifths + 8, minor
+abbrev pub fieldRow : ℕ → List ℕ
+fieldRow m = markUpper m ∷ markLower m ∷ markPrinted m ∷ markTempo m ∷ markFifths m ∷ markMinor m ∷ []
+
 -- ---- section 9: automation
 
 abbrev pub automationRow : Piece → List ℕ
@@ -138,6 +149,10 @@ everyCode =
           ∷ (word 9 1 50 64 ∷ word 9 0 70 64 ∷ word 9 0 60 64 ∷ word 1 0 0 0 ∷ word 8 0 61 0 ∷ []);
     }
 
+-- two ons without off: channel 1, key 0, then channel 0, key 127
+abbrev pub byChannels : Piece
+byChannels = oneTrack (0 ∷ 0 ∷ []) (word 9 1 0 64 ∷ word 9 0 127 64 ∷ [])
+
 -- with an upper figure 0 the first meter has no length
 abbrev pub noLength : Piece
 noLength = oneTrack (0 ∷ 7 ∷ 0 ∷ []) (word 3 0 2 0 ∷ (2 * 2 ^ 24 + 500000) ∷ word 3 4 2 0 ∷ [])
@@ -171,6 +186,8 @@ events =
     ∷ row (taken (oneData 13)) (1 ∷ 1 ∷ 0 ∷ 0 ∷ 0 ∷ [])
     -- there is no other kind
     ∷ row (taken (word 7 0 0 0 ∷ word 15 0 0 0 ∷ word 255 0 0 0 ∷ [])) (0 ∷ 0 ∷ 0 ∷ [])
+    -- the division: bit 15 is timecode, 480 ticks per quarter
+    ∷ row (map (λ d. ticksPerQuarter (piece (d ∷ []) [] [])) (1 ∷ 16384 ∷ 32767 ∷ 32768 ∷ 65535 ∷ [])) (1 ∷ 16384 ∷ 32767 ∷ 480 ∷ 480 ∷ [])
     -- the head: the first tempo of tick 0 that is not 0, the first meter, the very first key
     ∷ row (headRow (head manyChanges)) (150 ∷ 3 ∷ 4 ∷ 1 ∷ 3 ∷ 1 ∷ [])
     -- what comes after tick 0 is not the head's: 120, 4/4, no key
@@ -188,6 +205,10 @@ events =
     ∷ (4 + 4 * 2 ^ 8 + 100 * 2 ^ 17)
     ∷ (4 + 4 * 2 ^ 8 + 1 * 2 ^ 27)
     ∷ [])
+    ∷ row (map markTempo (marks shortBars)) (0 ∷ 120 ∷ 0 ∷ [])
+    ∷ row (fieldRow (markOf (meter 255 128) true 999 (some (record { fifths = pos 7; minor = true })))) (255 ∷ 128 ∷ 1 ∷ 999 ∷ 15 ∷ 1 ∷ [])
+    ∷ row (fieldRow (markOf (meter 0 1) true 512 (some (record { fifths = negsuc 6; minor = true })))) (0 ∷ 1 ∷ 1 ∷ 512 ∷ 1 ∷ 1 ∷ [])
+    ∷ row (fieldRow (markOf (meter 3 4) false 0 none)) (3 ∷ 4 ∷ 0 ∷ 0 ∷ 0 ∷ 0 ∷ [])
     -- automation: kind after kind, each in track order; ticks at 480 per quarter
     ∷ row (automationRow allKinds)
     (1 ∷ 1 ∷ 1 ∷ 2 ∷ 5 ∷ 3 ∷ 2 ∷ 1 ∷ 4 ∷ word 14 0 0 64 ∷ word 11 0 7 8 ∷ word 12 0 6 0 ∷ word 13 0 5 0 ∷ word 10 0 60 9 ∷ [])
@@ -208,6 +229,8 @@ events =
     -- a place and a detail, bit by bit: code 5, track 1, event 2, tick 3, channel 0, key 60
     ∷ row (keep (λ n. eqb n (5 * 2 ^ 48 + 2 ^ 32 + 2)) (places everyCode)) ((5 * 2 ^ 48 + 2 ^ 32 + 2) ∷ [])
     ∷ row (keep (λ n. eqb n (3 * 2 ^ 16 + 60)) (details everyCode)) ((3 * 2 ^ 16 + 60) ∷ [])
+    -- by channel, then key
+    ∷ row (details byChannels) (127 ∷ 256 ∷ [])
     -- the first meter's length may be 0: no diagnostic 2
     ∷ row (places noLength) []
     ∷ row (details lateMeter) ((1000 * 2 ^ 16 + 255 * 2 ^ 8 + 255) ∷ [])

@@ -1,20 +1,22 @@
 -- A second table of examples, for rules that no theorem pins down.
 use Prim.Native.Nat.{ℕ, _+_, _*_, _^_}
-use mathlib.Core.List.{List, [], _∷_, flatMap, flatten}
+use mathlib.Core.Bool.{true}
+use mathlib.Core.List.{List, [], _∷_, map, flatMap, flatten}
 use mathlib.Core.Path.{_≡_, refl}
 use lib.ListN.{length, getD}
 use Rattle.rules.specs.Lists.{keep, any, every, position, changeFirst, insert, sortBy, flag}
 use Rattle.rules.specs.Piece.{Piece, firstTrack, timed, cutTracks}
 use Rattle.rules.specs.RawNotes.{RawNote, rawNotes, withoutOldest, pairOne, rawNotesOf}
-use Rattle.rules.specs.Changes.{head}
+use Rattle.rules.specs.Changes.{tempoOf, head}
 use Rattle.rules.specs.Bars.{barsFrom, endOfPiece, barsUpTo, starts, printedFrom, marksFrom, marks}
 use Rattle.rules.specs.Grid.{isOffGrid, grid}
 use Rattle.rules.specs.Voices.{Chord, joinOrOpen, chords, choose, place, voices}
-use Rattle.rules.specs.Values.{values, splitIn}
+use Rattle.rules.specs.Values.{values, splitIn, beats256, dotted, ticks480}
 use Rattle.rules.specs.Staff.{pieces, filled, voiceIn}
+use Rattle.rules.specs.Spelling.{semitone, spelled, spelledEither, sounds}
 use Rattle.rules.specs.Automation.{automationTick}
 use Rattle.rules.specs.Calls.{partArrays}
-use Rattle.rules.specs.Examples.{Row, row, one, given, wanted, note, drum}
+use Rattle.rules.specs.Examples.{Row, row, one, given, wanted, note, drum, signed, spellingRow}
 
 -- start, end, keys and unpitched mark of each chord
 abbrev pub chordRow : List Chord → List ℕ
@@ -114,8 +116,25 @@ further =
     ∷ (3 + 256)
     ∷ (5 + 16 + 256)
     ∷ [])
+    -- a tempo is a whole part, at most 999; a sixteenth has at least one tick
+    ∷ one (tempoOf 397351) 150
+    ∷ one (tempoOf 60000) 999
+    ∷ one (grid 1 (note 0 1 60 ∷ [])) 1
+    -- beats in 256ths: a longa, a 128th with three dots; at 480 ticks per quarter a dot adds the whole part of half
+    ∷ row (beats256 0 0 ∷ beats256 9 3 ∷ []) (4096 ∷ 15 ∷ [])
+    ∷ row (ticks480 4 0 ∷ ticks480 4 1 ∷ ticks480 9 2 ∷ []) (480 ∷ 720 ∷ 25 ∷ [])
+    -- keys are spelled with sharps: the steps of the twelve from middle C on; the first key is C -1, the last G 9
+    ∷ row (map (λ k. semitone (spelled (60 + k) .step)) (0 ∷ 1 ∷ 2 ∷ 3 ∷ 4 ∷ 5 ∷ 6 ∷ 7 ∷ 8 ∷ 9 ∷ 10 ∷ 11 ∷ []))
+    (0 ∷ 0 ∷ 2 ∷ 2 ∷ 4 ∷ 5 ∷ 5 ∷ 7 ∷ 7 ∷ 9 ∷ 9 ∷ 11 ∷ [])
+    ∷ row (spellingRow (spelled 0)) (0 ∷ 1 ∷ 1 ∷ 0 ∷ 0 ∷ [])
+    ∷ row (spellingRow (spelled 127)) (7 ∷ 0 ∷ 9 ∷ 0 ∷ 0 ∷ [])
+    -- a spelling sounds its key
+    ∷ row (signed (sounds (spelled 61))) (0 ∷ 61 ∷ [])
+    -- where flats are preferred key 61 is D flat 4
+    ∷ row (spellingRow (spelledEither 61 true)) (2 ∷ 0 ∷ 4 ∷ 1 ∷ 1 ∷ [])
     -- automation ticks round to the nearest
     ∷ one (automationTick 960 1) 1
+    ∷ one (automationTick 480 1000) 1000
     -- a chord is unpitched if all its notes are on channel 9
     ∷ row (chordRow (chords 120 (drum 0 120 36 ∷ drum 0 120 38 ∷ []))) (0 ∷ 120 ∷ (2 ^ 36 + 2 ^ 38) ∷ 1 ∷ [])
     ∷ row (chordRow (chords 120 (drum 0 120 36 ∷ note 0 120 38 ∷ []))) (0 ∷ 120 ∷ (2 ^ 36 + 2 ^ 38) ∷ 0 ∷ [])
@@ -126,6 +145,7 @@ further =
     -- higher keys come first at one start
     ∷ row (voiceRow 0 (note 0 120 60 ∷ note 0 240 64 ∷ [])) (0 ∷ 240 ∷ 2 ^ 64 ∷ 0 ∷ [])
     ∷ row (voiceRow 1 (note 0 120 60 ∷ note 0 240 64 ∷ [])) (0 ∷ 120 ∷ 2 ^ 60 ∷ 0 ∷ [])
+    ∷ row (voiceRow 0 (note 0 120 126 ∷ note 0 240 127 ∷ [])) (0 ∷ 240 ∷ 2 ^ 127 ∷ 0 ∷ [])
     -- a voice that ends at the chord's start is free
     ∷ row (voiceRow 0 (note 0 120 60 ∷ note 120 240 62 ∷ [])) (0 ∷ 120 ∷ 2 ^ 60 ∷ 0 ∷ 120 ∷ 240 ∷ 2 ^ 62 ∷ 0 ∷ [])
     -- keys are given to the first voice of the same start, the unpitched mark is not
@@ -146,5 +166,5 @@ further =
 
 pub further-hold : given further ≡ wanted further
 unfolding further keep any every position changeFirst insert sortBy flatMap flatten timed cutTracks withoutOldest pairOne rawNotesOf joinOrOpen
-    choose place voices grid isOffGrid values splitIn pieces filled voiceIn barsFrom endOfPiece barsUpTo printedFrom marksFrom
+    choose place voices grid isOffGrid values splitIn dotted pieces filled voiceIn barsFrom endOfPiece barsUpTo printedFrom marksFrom
 further-hold = refl

@@ -56,7 +56,11 @@ d = 2 ^ 62
 abbrev pub noteOf : ℕ → Piece
 noteOf l = oneTrack (0 ∷ l ∷ []) (word 9 0 60 64 ∷ word 8 0 60 0 ∷ [])
 
--- the same at 12 ticks per quarter
+-- one bar of 16/4, and a note as long
+abbrev pub longa : Piece
+longa = oneTrack (0 ∷ 0 ∷ 7680 ∷ []) (word 3 16 2 0 ∷ word 9 0 60 64 ∷ word 8 0 60 0 ∷ [])
+
+-- a note of a quarter at 12 ticks per quarter
 abbrev pub coarse : Piece
 coarse = piece (12 ∷ 1 ∷ 2 ∷ []) (0 ∷ 12 ∷ []) (word 9 0 60 64 ∷ word 8 0 60 0 ∷ [])
 
@@ -78,6 +82,8 @@ readings =
     ∷ one (reads printedPiece (2 ∷ 0 ∷ 0 ∷ 0 ∷ []) (4 ∷ (3 + dot + r) ∷ (3 + r) ∷ []) (c ∷ 0 ∷ [])) 0
     ∷ one (reads printedPiece (2 ∷ 0 ∷ 0 ∷ 0 ∷ []) (4 ∷ (3 + dot + r) ∷ []) (c ∷ 0 ∷ 0 ∷ [])) 0
     ∷ one (reads printedPiece (2 ∷ 0 ∷ 0 ∷ 0 ∷ []) ((4 + 512) ∷ (3 + dot + r) ∷ []) (c ∷ 0 ∷ [])) 0
+    ∷ one (reads longa (1 ∷ 0 ∷ 0 ∷ 0 ∷ []) (0 ∷ []) (c ∷ [])) 1
+    ∷ one (reads longa (1 ∷ 0 ∷ 0 ∷ 0 ∷ []) (512 ∷ []) (c ∷ [])) 0
     -- values: code 8 is one of staffs, code 9 is none; nor is a dotted value of no whole number of ticks
     ∷ one
     (reads printedPiece (7 ∷ 0 ∷ 0 ∷ 0 ∷ []) (4 ∷ (3 + r) ∷ (5 + r) ∷ (6 + r) ∷ (7 + r) ∷ (8 + r) ∷ (8 + r) ∷ []) (c ∷ 0 ∷ 0 ∷ 0 ∷ 0 ∷ 0 ∷ 0 ∷ []))
@@ -134,6 +140,10 @@ readings =
     -- each played-back key is that of a note of the chord's start
     ∷ one (reads printedPiece (2 ∷ 0 ∷ 0 ∷ 0 ∷ []) (4 ∷ (3 + dot + r) ∷ []) ((c + cs) ∷ 0 ∷ [])) 0
     ∷ one (reads overlapping (3 ∷ 0 ∷ 0 ∷ 0 ∷ []) (4 ∷ 4 ∷ (3 + r) ∷ []) (c ∷ (c + d) ∷ 0 ∷ [])) 0
+    -- in each of the four voices
+    ∷ one (reads printedPiece (2 ∷ 1 ∷ 0 ∷ 0 ∷ []) (4 ∷ (3 + dot + r) ∷ 2 ∷ []) (c ∷ 0 ∷ d ∷ [])) 0
+    ∷ one (reads printedPiece (2 ∷ 0 ∷ 1 ∷ 0 ∷ []) (4 ∷ (3 + dot + r) ∷ 2 ∷ []) (c ∷ 0 ∷ d ∷ [])) 0
+    ∷ one (reads printedPiece (2 ∷ 0 ∷ 0 ∷ 1 ∷ []) (4 ∷ (3 + dot + r) ∷ 2 ∷ []) (c ∷ 0 ∷ d ∷ [])) 0
     -- each chord ends at its note's end, at its voice's next chord, or at the last bar's end
     ∷ one (reads printedPiece (2 ∷ 0 ∷ 0 ∷ 0 ∷ []) (3 ∷ (3 + r) ∷ []) (c ∷ 0 ∷ [])) 0
     ∷ one (reads overlapping (3 ∷ 0 ∷ 0 ∷ 0 ∷ []) (4 ∷ 4 ∷ (3 + r) ∷ []) (c ∷ d ∷ 0 ∷ [])) 1

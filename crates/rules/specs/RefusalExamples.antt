@@ -1,13 +1,11 @@
 -- A fourth table of examples: each refusal's number, and which of two is given.
-use Prim.Native.Nat.{ℕ, _+_, _<_}
+use Prim.Native.Nat.{ℕ, _<_, _≤_, min}
 use mathlib.Core.List.{List, [], _∷_, flatMap, flatten}
 use mathlib.Core.Path.{_≡_, refl}
-use native.Mathlib.Omega.{arith}
-use borrow.Author.Tests.{eq-eqb, lt-ltb}
-use lib.ListN.{replicate, length-replicate}
+use lib.ListN.{length, replicate}
 use Rattle.rules.specs.Lists.{keep, any, every, position, changeFirst, insert, sortBy, sum}
 use Rattle.rules.specs.Piece.{Piece, piece, sizesAgree, timed, cutTracks, wellFormed}
-use Rattle.rules.specs.RawNotes.{withoutOldest, pairOne, rawNotesOf, mostNotes}
+use Rattle.rules.specs.RawNotes.{withoutOldest, pairOne, rawNotesOf, parts, mostNotes}
 use Rattle.rules.specs.Bars.{barsFrom, endOfPiece, barsUpTo, printedFrom, marksFrom}
 use Rattle.rules.specs.Grid.{isOffGrid, grid}
 use Rattle.rules.specs.Voices.{joinOrOpen, choose, place, voices}
@@ -118,14 +116,28 @@ unfolding refusals keep any every position changeFirst insert sortBy sum flatMap
     filled voiceIn even? automationLists cancelled sameMessages isDropped inTracks diagnostics unless eventRefusals pieceRefusals
 refusals-hold = refl
 
--- 3: over 500,000 events, whatever their deltas and words: 3 comes before 4 and 5. 2 before it.
+-- ---- what no row computes: pieces of many events and of many tracks
+
+-- n events of one delta and one word
 abbrev pub manyEvents : ℕ → ℕ → ℕ → ℕ → Piece
 manyEvents division n d w = piece (division ∷ 1 ∷ n ∷ []) (replicate n d) (replicate n w)
 
-pub too-many : (n d w : ℕ) → 500000 < n → numberOf (headCall (manyEvents 480 n d w)) ≡ 3
-unfolding sum sizesAgree unless pieceRefusals
-too-many n d w h = rw (length-replicate n d, length-replicate n w, eq-eqb n (n + 0) (omega arith), lt-ltb 500000 n h)
+-- n tracks of no events
+abbrev pub manyTracks : ℕ → Piece
+manyTracks n = piece (480 ∷ n ∷ replicate n 0) [] []
 
-pub too-many-undivided : (n d w : ℕ) → numberOf (headCall (manyEvents 0 n d w)) ≡ 2
-unfolding sum sizesAgree unless pieceRefusals
-too-many-undivided n d w = rw (length-replicate n d, length-replicate n w, eq-eqb n (n + 0) (omega arith))
+-- n tracks of one note each
+abbrev pub manyNotes : ℕ → Piece
+manyNotes n = piece (480 ∷ n ∷ replicate n 1) (replicate n 0) (replicate n (word 9 0 60 64))
+
+-- `diagnosticsCall` is asked with no work area: 8 comes next where 1 to 5 let a piece pass.
+pub record AtTheLimits : Type 0 where
+  -- 1: more than 65,535 tracks
+  pub many-tracks : (n : ℕ) → 65535 < n → numberOf (diagnosticsCall (manyTracks n) 0 0 0) ≡ 1
+  pub most-tracks : (n : ℕ) → n ≤ 65535 → numberOf (diagnosticsCall (manyTracks n) 0 0 0) ≡ 8
+  -- 3: more than 500,000 events, whatever their deltas and words: 3 comes before 4 and 5, and 2 before it
+  pub many-events : (n d w : ℕ) → 500000 < n → numberOf (headCall (manyEvents 480 n d w)) ≡ 3
+  pub most-events : (n : ℕ) → n ≤ 500000 → numberOf (diagnosticsCall (manyEvents 480 n 0 0) 0 0 0) ≡ 8
+  pub undivided : (n d w : ℕ) → numberOf (headCall (manyEvents 0 n d w)) ≡ 2
+  -- 7: of n tracks with notes the first 32 are parts
+  pub most-parts : (n : ℕ) → length (parts (manyNotes n)) ≡ min 32 n

@@ -7,10 +7,11 @@ use Rattle.rules.specs.Bars.{bars, mostBars}
 use Rattle.rules.specs.Piece.{Piece, piece}
 use Rattle.rules.specs.Refusals.{noteRefusals}
 use Rattle.laws.specs.Admitted.{Passes, Admitted}
+use Rattle.laws.proofs.BarLaws.{bars-stop}
 use Rattle.bar_walk.specs.Walk.{CanWalk}
 use Rattle.bar_source.proofs.Sources.{walked, bars-are}
 use Rattle.opening.proofs.Opening.{refuses, notes-pass, notes-admitted}
-use Rattle.bars.proofs.BarOutcomes.{few-bars, bars-refused, starts-short, marks-short, bars-given}
+use Rattle.bars.proofs.BarOutcomes.{bars-refused, starts-short, marks-short, bars-given}
 use Rattle.bars.proofs.bars.Statement.{statement}
 use Rattle.bars.proofs.bars.Tie as tie
 
@@ -74,7 +75,7 @@ cast-t19 c =
     let at-midi-bars = c .before .before .before .before in
     let at-count = at-midi-bars .before .before .before .before .before in
     let at-if1 = at-count .before .before .before .before in
-    omega (arith, counted at-count, few-bars (given at-if1))
+    omega (arith, counted at-count, bars-stop (given at-if1) .most)
 
 returns-4 : tie.Need-returns-4
 returns-4 c =
