@@ -1,9 +1,9 @@
--- A fourth table of examples: each refusal's number, and which of two is given.
+-- A fourth table of examples: each refusal's number, which of two is given, and what lent arrays hold afterwards.
 use Prim.Native.Nat.{ℕ, _<_, _≤_, min}
 use mathlib.Core.List.{List, [], _∷_, flatMap, flatten}
 use mathlib.Core.Path.{_≡_, refl}
 use lib.ListN.{length, replicate}
-use Rattle.rules.specs.Lists.{keep, any, every, position, changeFirst, insert, sortBy, sum}
+use Rattle.rules.specs.Lists.{keep, any, every, position, changeFirst, insert, sortBy, sum, written, cleared}
 use Rattle.rules.specs.Piece.{Piece, piece, sizesAgree, timed, cutTracks, wellFormed}
 use Rattle.rules.specs.RawNotes.{withoutOldest, pairOne, rawNotesOf, parts, mostNotes}
 use Rattle.rules.specs.Bars.{barsFrom, endOfPiece, barsUpTo, printedFrom, marksFrom}
@@ -15,10 +15,10 @@ use Rattle.rules.specs.Staff.{pieces, filled, voiceIn}
 use Rattle.rules.specs.ProofReaderTests.{even?}
 use Rattle.rules.specs.Automation.{automationLists, cancelled, sameMessages, isDropped}
 use Rattle.rules.specs.Diagnostics.{inTracks, diagnostics}
-use Rattle.rules.specs.Refusals.{Result, refused, given as answered, unless, eventRefusals, pieceRefusals}
+use Rattle.rules.specs.Refusals.{Result, refused, given as answered, unless, writes, eventRefusals, pieceRefusals}
 use Rattle.rules.specs.Calls.{headCall, partCountCall, partHeadCall, barsCall, staffSizeCall, engraveCall, automationCall, diagnosticsCall, proofReadCall}
-use Rattle.rules.specs.Calls.{beatsCall, spellingCall}
-use Rattle.rules.specs.Examples.{Row, one, given, wanted}
+use Rattle.rules.specs.Calls.{BarLists, beatsCall, spellingCall}
+use Rattle.rules.specs.Examples.{Row, row, one, given, wanted}
 use Rattle.rules.specs.FurtherExamples.{word, printedPiece}
 
 -- a call's number, 0 where it is answered
@@ -42,6 +42,10 @@ unevenNote = piece (5 ∷ 1 ∷ 2 ∷ []) (0 ∷ 5 ∷ []) (151010368 ∷ 134233
 
 abbrev pub noStaff : StaffArrays
 noStaff = record { counts = []; heads = []; keys = [] }
+
+-- what starts of 7, 8, 9 hold after the call of the bars
+abbrev pub startsLeft : Result BarLists → List ℕ
+startsLeft r = written (writes (λ (b : BarLists). b .starts) r) (7 ∷ 8 ∷ 9 ∷ [])
 
 pub refusals : List Row
 refusals =
@@ -108,6 +112,12 @@ refusals =
     ∷ one (numberOf (beatsCall 0 4)) 10
     ∷ one (numberOf (spellingCall 127)) 0
     ∷ one (numberOf (spellingCall 128)) 10
+    -- a lent output has what was written, and behind it what stood there; a refusal leaves all of it
+    ∷ row (written (1 ∷ 2 ∷ []) (7 ∷ 8 ∷ 9 ∷ [])) (1 ∷ 2 ∷ 9 ∷ [])
+    ∷ row (startsLeft (barsCall printedPiece 3 3)) (0 ∷ 8 ∷ 9 ∷ [])
+    ∷ row (startsLeft (barsCall printedPiece 3 0)) (7 ∷ 8 ∷ 9 ∷ [])
+    -- a work area is zero
+    ∷ row (cleared (7 ∷ 8 ∷ 9 ∷ [])) (0 ∷ 0 ∷ 0 ∷ [])
     ∷ []
 
 pub refusals-hold : given refusals ≡ wanted refusals
