@@ -3,7 +3,7 @@
 
     python3 definitions/altered.py [FILE ..]
 
-Run from differential/; a FILE is one of crates/rules/specs, as Bars (default: every file of a section). What is altered: a
+Run from differential/; a FILE is one of crates/rules/specs, as Bars (default: all but the tables of examples). What is altered: a
 number is one more or one less; < for <= and <= for <; "and" for "or" and back; true for false and back; start for end, key
 for channel and back; a "not" left out. Each is tried on copies of rules and laws below target/, two at a time: the tables
 of examples and the laws on meanings and limits refuse it in rules, or a theorem in laws. Prints each that both let pass, and
@@ -22,8 +22,8 @@ from concurrent.futures import ThreadPoolExecutor
 HERE = pathlib.Path(__file__).resolve().parent.parent
 COPIES = [HERE / "target/altered" / str(number) for number in range(2)]
 SPECS = "crates/rules/specs"
-SECTIONS = """Piece RawNotes Changes Bars Grid Voices Values Items Staff Spelling ProofReader ProofReaderTests Automation
-Diagnostics Refusals Calls""".split()
+SECTIONS = """Lists Standard Meanings Piece RawNotes Changes Bars Grid Voices Values Items Staff Spelling ProofReader
+ProofReaderTests Automation Diagnostics Refusals Calls""".split()
 NUMBER = re.compile(r"(?<![\w·₀₁.])\d+(?!\w)")
 EXCHANGED = [("ltb", "leb"), ("true", "false"), ("&&", "||"), (".start", ".end"), (".key", ".channel")]
 SIGNATURE = re.compile(r"(?:(?:abbrev|unfoldable) )?pub [^=]*|.*: Type \d where")
