@@ -23,7 +23,7 @@ cat > "$prefix/lib/pkgconfig/acorde.pc" << END
 prefix=\${pcfiledir}/../..
 
 Name: acorde
-Description: From the events of a MIDI recording to bars of up to four voices
+Description: From MIDI files, or the events of a recording, to bars of up to four voices
 Version: $version
 Cflags: -I\${prefix}/include
 Libs: -L\${prefix}/lib -lacorde

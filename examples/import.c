@@ -1,13 +1,20 @@
 /* Imports a piece and prints what the library gives of it: head, bars, each part's staff and automation, diagnostics.
 
      import        a small piece of two parts
-     import FILE   the piece in FILE: sizes, deltas and words in decimal, one array a line, as in examples/first.txt
+     import FILE   the piece in FILE: a MIDI file, as examples/first.mid, or sizes, deltas and words in decimal, one
+                   array a line, as examples/first.txt
 
    Leaves with status 1 where the piece is turned back. */
 #include "acorde.h"
 #include <inttypes.h>
 #include <stdio.h>
 #include <stdlib.h>
+#include <string.h>
+
+typedef struct {
+    uint8_t *at;
+    size_t n, room;
+} Bytes;
 
 typedef struct {
     uint32_t *at;
@@ -45,10 +52,13 @@ static int refused(const char *call, uint32_t number) {
                                            "no such part",
                                            "too little space",
                                            "uneven",
-                                           "out of range"};
+                                           "out of range",
+                                           "file too large",
+                                           "no MIDI file, or a broken one",
+                                           "format above 1"};
     if (number == ACORDE_OK)
         return 0;
-    printf("%s: refused %" PRIu32 ", %s\n", call, number, number <= ACORDE_RANGE ? meanings[number] : "?");
+    printf("%s: refused %" PRIu32 ", %s\n", call, number, number <= ACORDE_FORMAT ? meanings[number] : "?");
     return 1;
 }
 
@@ -89,12 +99,17 @@ static const struct {
     {240, ACORDE_WORD(ACORDE_KIND_END, 0, 0, 0)},
 };
 
+/* The three arrays of a piece. */
+static void lend_piece(Piece *x, size_t sizes, size_t events) {
+    x->sizes.n = sizes;
+    x->deltas.n = x->words.n = events;
+    x->sizes.at = lend(sizes, sizeof(uint32_t));
+    x->deltas.at = lend(events, sizeof(uint32_t));
+    x->words.at = lend(events, sizeof(uint32_t));
+}
+
 static void small_piece(Piece *x) {
-    x->sizes.n = sizeof small_sizes / sizeof small_sizes[0];
-    x->deltas.n = x->words.n = sizeof small_events / sizeof small_events[0];
-    x->sizes.at = lend(x->sizes.n, sizeof(uint32_t));
-    x->deltas.at = lend(x->deltas.n, sizeof(uint32_t));
-    x->words.at = lend(x->words.n, sizeof(uint32_t));
+    lend_piece(x, sizeof small_sizes / sizeof small_sizes[0], sizeof small_events / sizeof small_events[0]);
     for (size_t i = 0; i < x->sizes.n; i++)
         x->sizes.at[i] = small_sizes[i];
     for (size_t i = 0; i < x->words.n; i++) {
@@ -115,14 +130,16 @@ static void append(Numbers *a, uint32_t number) {
     a->at[a->n++] = number;
 }
 
-/* One line of numbers. 0 where there is none, or it has anything else in it. */
-static int read_line(FILE *file, Numbers *a) {
+/* The next line of numbers, from byte i on. 0 where there is none, or it has anything else in it. */
+static int read_line(const Bytes *b, size_t *i, Numbers *a) {
     uint64_t number = 0;
-    int digits = 0, c = getc(file);
+    int digits = 0;
     a->at = lend(0, sizeof *a->at); /* an empty line is an empty array */
-    if (c == EOF)
+    if (*i >= b->n)
         return 0;
-    for (;; c = getc(file)) {
+    for (;;) {
+        int c = *i < b->n ? b->at[*i] : '\n'; /* the last line may end with the text */
+        ++*i;
         if (c >= '0' && c <= '9') {
             number = 10 * number + (uint64_t)(c - '0');
             digits = 1;
@@ -134,22 +151,55 @@ static int read_line(FILE *file, Numbers *a) {
             append(a, (uint32_t)number);
         number = 0;
         digits = 0;
-        if (c == '\n' || c == EOF)
+        if (c == '\n')
             return 1;
         if (c != ' ' && c != '\r')
             return 0;
     }
 }
 
-static int read_piece(const char *path, Piece *x) {
-    FILE *file = fopen(path, "r");
-    int ok;
+static int read_text(const Bytes *b, Piece *x) {
+    size_t i = 0;
+    if (read_line(b, &i, &x->sizes) && read_line(b, &i, &x->deltas) && read_line(b, &i, &x->words) && i >= b->n)
+        return 1;
+    return !refused("text", ACORDE_SIZES);
+}
+
+/* A MIDI file: the sizes are asked, just that is lent, then it is read. */
+static int read_midi(const Bytes *b, Piece *x) {
+    AcordePiece size = acorde_read_size(b->at, b->n), read;
+    if (refused("acorde_read_size", size.number))
+        return 0;
+    lend_piece(x, size.sizes, size.events);
+    read = acorde_read(b->at, b->n, x->sizes.at, x->sizes.n, x->deltas.at, x->deltas.n, x->words.at, x->words.n);
+    return !refused("acorde_read", read.number);
+}
+
+/* All bytes of a file. */
+static void read_bytes(const char *path, Bytes *b) {
+    FILE *file = fopen(path, "rb");
     if (file == NULL) {
         perror(path);
         exit(2);
     }
-    ok = read_line(file, &x->sizes) && read_line(file, &x->deltas) && read_line(file, &x->words) && getc(file) == EOF;
+    do {
+        uint8_t *more = lend(2 * b->room + 4096, 1);
+        if (b->n > 0)
+            memcpy(more, b->at, b->n);
+        free(b->at);
+        b->at = more;
+        b->room = 2 * b->room + 4096;
+        b->n += fread(b->at + b->n, 1, b->room - b->n, file);
+    } while (b->n == b->room);
     fclose(file);
+}
+
+static int read_piece(const char *path, Piece *x) {
+    Bytes b = {NULL, 0, 0};
+    int ok;
+    read_bytes(path, &b);
+    ok = b.n >= 4 && memcmp(b.at, "MThd", 4) == 0 ? read_midi(&b, x) : read_text(&b, x);
+    free(b.at);
     return ok;
 }
 
@@ -347,8 +397,8 @@ int main(int argc, char **argv) {
     int ok = 1;
     if (argc < 2)
         small_piece(&x);
-    else if (!read_piece(argv[1], &x))
-        ok = !refused("text", ACORDE_SIZES);
+    else
+        ok = read_piece(argv[1], &x);
     ok = ok && import(&x);
     free(x.words.at);
     free(x.deltas.at);

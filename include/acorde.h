@@ -1,8 +1,9 @@
-/* acorde.h: from the events of a MIDI recording to bars of up to four voices, for C and C++.
+/* acorde.h: from a MIDI file, or the events of a recording, to bars of up to four voices, for C and C++.
 
    This file is the manual. It has, in this order: what is asked of a caller; what every call promises; how much to
-   lend; times; the version; limits; refusals; the piece; its notes; the answers; the calls, each under its contract.
-   examples/first.c is a first program, examples/import.c one that makes every call.
+   lend; times; the version; limits; refusals; the piece; its notes; the answers; a MIDI file, and the calls that read
+   one; the calls on a piece, each under its contract. examples/first.c is a first program, examples/import.c one that
+   makes every call.
 
    WHAT IS ASKED OF A CALLER
 
@@ -13,7 +14,7 @@
    Nothing else is assumed: any numbers in any arrays of any counts give an answer or a refusal.
 
    The archive is code for x86-64 Linux. It takes one function from elsewhere, memset, and has no data that is written
-   to. A call needs less than 20 KiB of stack (measured, not proved).
+   to. A call needs less than 20 KiB of stack, one that reads a file less than 1 KiB (measured, not proved).
 
    WHAT EVERY CALL PROMISES
 
@@ -28,6 +29,10 @@
 
    HOW MUCH TO LEND
 
+     acorde_read          sizes, deltas, words  acorde_read_size tells: sizes, events and events elements. Without
+                                                asking, 2 + bytes_n / 12, bytes_n / 2 and bytes_n / 2 suffice for
+                                                every file; never are more than 2 + ACORDE_LARGEST_SIZE,
+                                                ACORDE_MOST_EVENTS and ACORDE_MOST_EVENTS needed
      acorde_bars          starts, marks         ACORDE_MOST_BARS elements each suffice for every piece
      acorde_engrave       counts, heads, keys   acorde_staff_size tells: 4 * bars, items and 2 * items elements
      acorde_automation    ticks, out            as many elements each as the part's track has events suffice
@@ -36,8 +41,9 @@
                                                 track: the part's own, another part's, or one that is no part
 
    N need not be known: any number that is not smaller serves, and the piece's number of events never is. For the least
-   area count the note-ons of each track and take the largest count. Once a call on the piece has given any number but
-   ACORDE_SIZES (0 too) the arrays fit each other, and with size_t n, t, i, e, ons this makes n the N of the piece:
+   area count the note-ons of each track and take the largest count. Once acorde_read has read the piece, or a call on
+   it has given any number but ACORDE_SIZES (0 too), the arrays fit each other, and with size_t n, t, i, e, ons this
+   makes n the N of the piece:
 
      for (n = t = i = 0; t < sizes[1]; t++, n = ons > n ? ons : n)
          for (ons = e = 0; e < sizes[2 + t]; e++, i++)
@@ -45,13 +51,16 @@
 
    TIME
 
-   Each call admits and reads the whole piece again, whatever part it is asked for, and zeroes all of the work area that
-   it is lent. So an import of all parts, some calls for each, takes time in proportion to parts * events. Heads,
-   counts, bars, automation and diagnostics take time in proportion to events, tracks and bars; sizes, staffs and
-   proof-reading sort the part's notes too. One shape of piece takes longer: acorde_staff_size and acorde_engrave
-   compare a note with the chords that begin where it begins and end elsewhere, so that n notes of one start and n
-   different ends take n * n / 2 comparisons: 0.02 seconds for 5,000 such notes on a desk machine, 2 seconds for 50,000,
-   up to a minute for the worst of all pieces. */
+   The two calls on a file take time in proportion to its bytes: acorde_read_size passes them once, acorde_read twice.
+   On a desk machine that is up to 0.02 seconds for 500,000 events, and up to 0.3 seconds for the largest files.
+
+   Each call on a piece admits and reads the whole piece again, whatever part it is asked for, and zeroes all of the
+   work area that it is lent. So an import of all parts, some calls for each, takes time in proportion to parts *
+   events. Heads, counts, bars, automation and diagnostics take time in proportion to events, tracks and bars; sizes,
+   staffs and proof-reading sort the part's notes too. One shape of piece takes longer: acorde_staff_size and
+   acorde_engrave compare a note with the chords that begin where it begins and end elsewhere, so that n notes of one
+   start and n different ends take n * n / 2 comparisons: 0.02 seconds for 5,000 such notes on a desk machine, 2 seconds
+   for 50,000, up to a minute for the worst of all pieces. */
 #ifndef ACORDE_H
 #define ACORDE_H
 
@@ -66,13 +75,14 @@ extern "C" {
 
 /* Of this header and of the archive built with it. MAJOR grows where a program for the version before may no longer be
    right, MINOR where something is added. CHANGELOG.md has what changed. */
-#define ACORDE_VERSION "1.0.0"
+#define ACORDE_VERSION "1.1.0"
 #define ACORDE_VERSION_MAJOR 1
-#define ACORDE_VERSION_MINOR 0
+#define ACORDE_VERSION_MINOR 1
 #define ACORDE_VERSION_PATCH 0
 
 /* ---- Limits ------------------------------------------------------------------------------------------------------ */
 
+#define ACORDE_LARGEST_FILE 67108864   /* bytes of a MIDI file */
 #define ACORDE_MOST_EVENTS 500000      /* in a piece */
 #define ACORDE_LARGEST_SIZE 65535      /* of the division and of the number of tracks */
 #define ACORDE_LARGEST_DELTA 268435455 /* every tick is below 2^47 */
@@ -90,21 +100,24 @@ extern "C" {
 
 /* ---- Refusals ---------------------------------------------------------------------------------------------------- */
 
-/* They are asked in the order of their numbers, and the first that applies is given: where it is 4, none of 1 to 3
-   applies. Only 4 and 5 are asked together: the first event that is bad in either way decides, 4 first. Each call says
-   which numbers it can give. */
+/* Each call lists the numbers that it can give in the order in which they are asked, and the first that applies is
+   given: of a call on a piece, where it is 4, none of 1 to 3 applies. Only 4 and 5 are asked together: the first event
+   that is bad in either way decides, 4 first. */
 #define ACORDE_OK 0
-#define ACORDE_SIZES 1    /* sizes_n is 0 or 1, or not 2 + the number of tracks, deltas_n or words_n is not the sum of
-                             the event counts, or the division or the number of tracks is above ACORDE_LARGEST_SIZE */
-#define ACORDE_DIVISION 2 /* the division is 0 */
-#define ACORDE_EVENTS 3   /* more than ACORDE_MOST_EVENTS events */
-#define ACORDE_DELTA 4    /* a delta above ACORDE_LARGEST_DELTA */
-#define ACORDE_BAD_WORD 5 /* a word that the table of kinds does not have */
-#define ACORDE_NO_NOTES 6 /* no track has a note-on above velocity 0 */
-#define ACORDE_NO_PART 7  /* no part of that number */
-#define ACORDE_SPACE 8    /* work_n below ACORDE_WORK(N), or an output shorter than what it would get */
-#define ACORDE_UNEVEN 9   /* acorde_proof_read: no verdict can be given on a staff of this part */
-#define ACORDE_RANGE 10   /* acorde_beats, acorde_spelling: an argument out of range */
+#define ACORDE_SIZES 1      /* sizes_n is 0 or 1, or not 2 + the number of tracks, deltas_n or words_n is not the sum of
+                               the event counts, or the division or the number of tracks is above ACORDE_LARGEST_SIZE */
+#define ACORDE_DIVISION 2   /* the division is 0 */
+#define ACORDE_EVENTS 3     /* more than ACORDE_MOST_EVENTS events */
+#define ACORDE_DELTA 4      /* a delta above ACORDE_LARGEST_DELTA */
+#define ACORDE_BAD_WORD 5   /* a word that the table of kinds does not have */
+#define ACORDE_NO_NOTES 6   /* no track has a note-on above velocity 0 */
+#define ACORDE_NO_PART 7    /* no part of that number */
+#define ACORDE_SPACE 8      /* work_n below ACORDE_WORK(N), or an output shorter than what it would get */
+#define ACORDE_UNEVEN 9     /* acorde_proof_read: no verdict can be given on a staff of this part */
+#define ACORDE_RANGE 10     /* acorde_beats, acorde_spelling: an argument out of range */
+#define ACORDE_FILE_SIZE 11 /* acorde_read_size, acorde_read: more than ACORDE_LARGEST_FILE bytes */
+#define ACORDE_BAD_FILE 12  /* acorde_read_size, acorde_read: no MIDI file, or a broken one */
+#define ACORDE_FORMAT 13    /* acorde_read_size, acorde_read: a MIDI file of a format above 1 */
 
 /* ---- The piece --------------------------------------------------------------------------------------------------- */
 
@@ -199,6 +212,12 @@ extern "C" {
 
 typedef struct {
     uint32_t number;
+    size_t sizes;  /* elements of the piece's sizes: 2 + its number of tracks */
+    size_t events; /* elements of its deltas, and of its words */
+} AcordePiece;
+
+typedef struct {
+    uint32_t number;
     uint32_t tempo;   /* quarters per minute, 1 to 999; 120 where there is none at tick 0 */
     uint32_t upper;   /* meter, 0 to 255; 4/4 where there is none at tick 0 */
     uint32_t lower;   /* 1, 2, 4, .. 128 */
@@ -248,6 +267,78 @@ typedef struct {
     int32_t octave; /* -1 to 9 */
     int32_t alter;  /* 1 sharp, 0 natural */
 } AcordeSpelling;
+
+/* ---- A MIDI file ------------------------------------------------------------------------------------------------- */
+
+/* The bytes of a Standard MIDI File 1.0, of format 0 or 1, are read as the three arrays of a piece, which the other
+   calls take. Bytes are in hexadecimal here. From its first byte to its last a file is chunks: four bytes of type, four
+   bytes of length, most significant first, and as many bytes as the length says. No padding is between chunks.
+
+     header   The first chunk, and no other, has the type MThd. It has six bytes or more: format, number of tracks and
+              division, two bytes each, most significant first. What a longer one has behind them is passed over.
+     tracks   The chunks of type MTrk, in their order: as many as the header says. Format 0 has exactly one, format 1
+              any number, even none.
+     others   Chunks of any other type are passed over, wherever they stand behind the header and whatever is in them.
+
+   A track is events up to its last byte. Each is its delta, then one of
+
+     80 to EF   a channel message: its status, and one data byte for C0 to DF, two for the others. Behind another
+                channel message an equal status may be left out: running status
+     FF         a meta event: its type, a length, as many bytes
+     F0, F7     a system event: a length, as many bytes, whatever they are; it need not end with F7
+
+   - Deltas and lengths are numbers of one to four bytes: seven bits a byte, most significant first, bit 7 set on every
+     byte but the last. They need not be the shortest: 80 80 05 is 5.
+   - Data bytes and a meta event's type are below 80. No other status is an event: F1 to F6 and F8 to FE are refused,
+     between the bytes of a message too.
+   - Meta and system events end a running status, and no track begins with one.
+   - A track has one End of Track, as its last event, and nothing behind it.
+   - Tempo, meter, key and End of Track have exactly 3, 4, 2 and 0 bytes. All other meta events, and system events, may
+     have any length. Meta events, but for End of Track, and system events may stand in any track and at any place.
+
+   Each event gives one delta and one word, End of Track too:
+
+     80 to EF   kinds 8 to 14: the status' high four bits; its low four are the channel. A note-on of velocity 0 stays
+                kind 9
+     FF 2F      kind 6, end of track
+     FF 51      kind 2, tempo
+     FF 58      kind 3, meter: its first two bytes; the other two are dropped
+     FF 59      kind 4, key
+     FF 7F      kind 5, marker, where the bytes are seven and begin with 41 43 52 44 31 (ACRD1): then base, spare; else
+                kind 0
+     other FF   kind 0
+     F0, F7     kind 1, one word for each
+
+   The division is the header's as it stands, timecode too.
+
+   The numbers of both calls, in the order in which they are asked:
+
+     11   the file has more than ACORDE_LARGEST_FILE bytes
+     12   it does not begin with a whole header
+     13   its format is above 1
+     12   anything behind the header is not as it is said above, wherever it stands
+     2    the division is 0
+     3    there are more than ACORDE_MOST_EVENTS events
+     5    a meter with a power above ACORDE_LARGEST_POWER, or a key with a minor above 1
+     8    acorde_read alone: an output is shorter than what it would get; there is no work area
+
+   Numbers 1 and 4 cannot come of a file (proved). Number 6 is not given: a file without notes is read.
+
+   The other calls take arrays of exactly the piece's lengths. So hand them the `sizes` and `events` that were answered
+   as sizes_n, deltas_n and words_n, not the room that was lent:
+
+     AcordePiece x = acorde_read_size(bytes, bytes_n);
+     .. where x.number is 0, x.sizes, x.events and x.events elements are lent ..
+     x = acorde_read(bytes, bytes_n, sizes, x.sizes, deltas, x.events, words, x.events);
+     head = acorde_head(sizes, x.sizes, deltas, x.events, words, x.events); */
+
+/* The size of a file's piece. Nothing is written. Numbers 11, 12, 13, 12, 2, 3, 5. */
+AcordePiece acorde_read_size(const uint8_t *bytes, size_t bytes_n);
+
+/* A file's piece. Answers its size, as acorde_read_size does, and writes its sizes, deltas and words. Numbers 11, 12,
+   13, 12, 2, 3, 5, 8. */
+AcordePiece acorde_read(const uint8_t *bytes, size_t bytes_n, uint32_t *sizes, size_t sizes_n, uint32_t *deltas,
+                        size_t deltas_n, uint32_t *words, size_t words_n);
 
 /* ---- Heads and parts --------------------------------------------------------------------------------------------- */
 

@@ -23,8 +23,8 @@ HERE = pathlib.Path(__file__).resolve().parent.parent
 COPIES = [HERE / "target/altered" / str(number) for number in range(2)]
 SPECS = "crates/rules/specs"
 SECTIONS = """Lists Standard Meanings Piece RawNotes Changes Bars Grid Voices Values Items Staff Spelling ProofReader
-ProofReaderTests Automation Diagnostics Refusals Calls""".split()
-NUMBER = re.compile(r"(?<![\w·₀₁.])\d+(?!\w)")
+ProofReaderTests Automation Diagnostics Refusals File Calls""".split()
+NUMBER = re.compile(r"(?<![\w·₀₁.])(?:0x[0-9a-f]+|\d+)(?!\w)")
 EXCHANGED = [("ltb", "leb"), ("true", "false"), ("&&", "||"), (".start", ".end"), (".key", ".channel")]
 SIGNATURE = re.compile(r"(?:(?:abbrev|unfoldable) )?pub [^=]*|.*: Type \d where")
 
@@ -36,10 +36,11 @@ def defines(line):
 
 def alterations(line):
     for found in NUMBER.finditer(line):
-        number = int(found.group())
+        number = int(found.group(), 0)
+        written = hex if found.group().startswith("0x") else str
         for other in (number + 1, number - 1):
             if other >= 0:
-                yield line[: found.start()] + str(other) + line[found.end() :]
+                yield line[: found.start()] + written(other) + line[found.end() :]
     for pair in EXCHANGED:
         for here, there in (pair, pair[::-1]):
             for found in re.finditer(re.escape(here) + r"(?![\w·])", line):

@@ -11,7 +11,9 @@ pub mod checked;
 pub mod compare;
 pub mod coverage;
 pub mod examples;
+pub mod files;
 pub mod generate;
+pub mod lent;
 #[cfg(feature = "library")]
 pub mod library;
 pub mod list;

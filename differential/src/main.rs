@@ -7,6 +7,7 @@ use differential::checked::named;
 use differential::compare::Rooms;
 use differential::coverage::Report;
 use differential::examples::EXAMPLES;
+use differential::files::{self, Entries};
 use differential::piece::Piece;
 #[cfg(feature = "library")]
 use differential::proofread::{self, Library};
@@ -25,12 +26,18 @@ const USAGE: &str = "usage: differential COMMAND
   short SEED INDEX     one of the short pieces of `sweep`
   staffs SEED INDEX CHANGES  a generated piece's staffs, engraved and changed, with the plain proof-reader's answers
   list SEED COUNT      a list of the reference's answers for the program `replay`; coverage on the standard error
+  list-files SEED COUNT  the same of a second reader's answers on files, for the program `replay_files`
   compare SEED COUNT [SECONDS]    the proved library against the reference (feature `library`)
   sweep SEED COUNT [SECONDS]      short pieces in less time: most with exactly enough room alone (feature `library`)
   large                           the same on the benchmark's pieces (feature `library`)
   arbitrary SEED COUNT [SECONDS]  the library's entries on arbitrary arrays (feature `library`)
   proofread SEED COUNT [SECONDS]  the library's proof-reader against the plain one (feature `library`)
   bench [TABLE ..]                times of both (feature `library`)
+  files SEED COUNT [SECONDS]      the library's reader of files against a second reader
+  files-all                       the same on changes of the worked files, all short tracks and large files
+  files-real                      the real files give their pieces
+  bench-files                     times of the library's reader of files beside a plain scanner's in C
+Behind the name of these four, `--scanner` asks the plain scanner; else they take the feature `library`.
 A piece is three lines of decimals: sizes, deltas, words.";
 
 fn main() -> ExitCode {
@@ -59,6 +66,12 @@ fn main() -> ExitCode {
             eprint!("{report}");
             Ok(())
         }),
+        ["list-files", seed, count] => number(seed).and_then(|seed| {
+            let (list, report) = files::list::of_seed(seed, number(count)?);
+            print!("{list}");
+            eprint!("{report}");
+            Ok(())
+        }),
         #[cfg(feature = "library")]
         ["bench", ref tables @ ..] => {
             bench::tables(tables);
@@ -74,6 +87,17 @@ fn main() -> ExitCode {
         ["arbitrary", ref numbers @ ..] => limited(arbitrary::run, numbers),
         #[cfg(feature = "library")]
         ["proofread", ref numbers @ ..] => limited(proofread::run::<Library>, numbers),
+        ["files", ref words @ ..] => asked(words).and_then(|(asked, numbers)| {
+            let run = |seed, count, seconds| files::run(&asked, [seed, count, seconds]);
+            limited(run, numbers)
+        }),
+        ["files-all", ref words @ ..] => alone(files::all::run, words),
+        ["files-real", ref words @ ..] => alone(files::real::run, words),
+        ["bench-files", "--scanner"] => {
+            files::bench::table(None);
+            Ok(())
+        }
+        ["bench-files"] => asked(&[]).map(|(asked, _)| files::bench::table(Some(&asked))),
         _ => Err(USAGE.to_string()),
     };
     match result {
@@ -89,9 +113,30 @@ fn number(word: &str) -> Result<u64, String> {
     word.parse().map_err(|_| USAGE.to_string())
 }
 
+/// Who reads files, the plain scanner if the first word says so, and the other words.
+fn asked<'a, 'b>(words: &'a [&'b str]) -> Result<(Entries, &'a [&'b str]), String> {
+    match words {
+        ["--scanner", rest @ ..] => Ok((files::SCANNER, rest)),
+        #[cfg(feature = "library")]
+        _ => Ok((files::LIBRARY, words)),
+        #[cfg(not(feature = "library"))]
+        _ => Err(USAGE.to_string()),
+    }
+}
+
+/// A run that takes no other words.
+fn alone(run: fn(&Entries) -> Result<(), String>, words: &[&str]) -> Result<(), String> {
+    match asked(words)? {
+        (asked, []) => run(&asked),
+        _ => Err(USAGE.to_string()),
+    }
+}
+
 /// A run of a seed, a count and perhaps a limit in seconds.
-#[cfg(feature = "library")]
-fn limited(run: fn(u64, u64, u64) -> Result<(), String>, numbers: &[&str]) -> Result<(), String> {
+fn limited(
+    run: impl Fn(u64, u64, u64) -> Result<(), String>,
+    numbers: &[&str],
+) -> Result<(), String> {
     match *numbers {
         [seed, count] => run(number(seed)?, number(count)?, u64::MAX),
         [seed, count, seconds] => run(number(seed)?, number(count)?, number(seconds)?),

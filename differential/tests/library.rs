@@ -1,7 +1,7 @@
 //! The library beside the reference, as far as a test's time goes; `compare` goes further.
 #![cfg(feature = "library")]
 
-use differential::{compare, generate, proofread};
+use differential::{compare, files, generate, proofread};
 
 #[test]
 fn generated_pieces_agree() {
@@ -15,4 +15,9 @@ fn generated_pieces_agree() {
 fn proof_readers_agree() {
     let run = proofread::run::<proofread::Library>;
     assert_eq!(run(1, 20_000, u64::MAX), Ok(()));
+}
+
+#[test]
+fn readers_of_files_agree() {
+    assert_eq!(files::run(&files::LIBRARY, [1, 50_000, u64::MAX]), Ok(()));
 }

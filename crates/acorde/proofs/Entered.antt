@@ -6,16 +6,19 @@ use mathlib.Core.List.{List}
 use mathlib.Core.Path.{_≡_, refl, ap, _∙_}
 use Rattle.rules.specs.Automation.{AutomationLists}
 use Rattle.rules.specs.Calls.{BarLists, BarsCalled, StaffSize, StaffSizeCalled, EngraveCalled}
+use Rattle.rules.specs.Calls.{PieceSize, ReadCalled}
 use Rattle.rules.specs.Calls.{AutomationCounts, AutomationCalled, DiagnosticsCalled, ProofReadCalled}
 use Rattle.rules.specs.Diagnostics.{Diagnostic}
 use Rattle.rules.specs.Items.{StaffArrays}
+use Rattle.rules.specs.Piece.{Piece}
 use Rattle.rules.specs.Refusals.{Result, refused, given, asItIs}
 use Rattle.duration.specs.Calls.{Exactly}
 use lib.Ieee.{Float, fin}
 use Rattle.acorde.specs.Values.{BeatsEntered}
 use Rattle.changes.specs.declared.Head.{Head}
 use Rattle.heads.specs.Answers.{headOf}
-use Rattle.acorde.specs.Entries.{headValues, headEntry, countEntry, automationEntry, staffEntry, readingEntry}
+use Rattle.acorde.specs.Entries.{headValues, headEntry, countEntry, automationEntry, staffEntry, readingEntry, pieceEntry}
+use Rattle.acorde.specs.declared.AcordePiece.{AcordePiece}
 
 -- a key that is absent has its fields 0
 pub head-entry : (h : Head) → (h .«has_key» ≡ false → (h .fifths ≡ pos 0) × (h .minor ≡ false)) → headValues h ≡ headEntry (given (headOf h))
@@ -56,6 +59,10 @@ size-entered e o = record { answered = ap staffEntry (e ∙ o .answered); work =
 pub read-entered : {r : Result Bool} {work work₁ : List ℕ} {a b : Result Bool} → a ≡ b → ProofReadCalled asItIs r work b work₁
     → ProofReadCalled readingEntry r work (readingEntry a) work₁
 read-entered e o = record { answered = ap readingEntry (e ∙ o .answered); work = o .work }
+
+pub piece-entered : {r : Result Piece} {sizes deltas words sizes₁ deltas₁ words₁ : List ℕ} {a : Result PieceSize} {p : AcordePiece} → p ≡ pieceEntry a
+    → ReadCalled asItIs r sizes deltas words a sizes₁ deltas₁ words₁ → ReadCalled pieceEntry r sizes deltas words p sizes₁ deltas₁ words₁
+piece-entered e o = record { answered = e ∙ ap pieceEntry (o .answered); sizes = o .sizes; deltas = o .deltas; words = o .words }
 
 -- ---- a value's beats
 

@@ -4,7 +4,7 @@ use mathlib.Core.Bool.{Bool}
 use mathlib.Core.Option.{Option, none, some}
 use lib.IntN.{pos}
 use Rattle.rules.specs.Lists.{flag}
-use Rattle.rules.specs.Calls.{StaffSize, AutomationCounts}
+use Rattle.rules.specs.Calls.{StaffSize, AutomationCounts, PieceSize}
 use Rattle.rules.specs.Changes as rules
 use Rattle.rules.specs.Refusals.{Result, refused, given}
 use Rattle.changes.specs.declared.Head.{Head}
@@ -14,6 +14,7 @@ use Rattle.acorde.specs.declared.AcordeCount.{AcordeCount}
 use Rattle.acorde.specs.declared.AcordePartHead.{AcordePartHead}
 use Rattle.acorde.specs.declared.AcordeStaff.{AcordeStaff}
 use Rattle.acorde.specs.declared.AcordeReading.{AcordeReading}
+use Rattle.acorde.specs.declared.AcordePiece.{AcordePiece}
 
 -- the entry of a head: has_key is 1 where there is a key; where there is none, fifths and minor are 0
 abbrev pub keyEntry : ℕ → rules.Meter → Option rules.Key → AcordeHead
@@ -59,3 +60,7 @@ staffEntry (given s) = record { number = 0; bars = s .bars; items = s .items }
 abbrev pub readingEntry : Result Bool → AcordeReading
 readingEntry (refused n) = record { number = n; right = 0 }
 readingEntry (given b) = record { number = 0; right = flag b }
+
+abbrev pub pieceEntry : Result PieceSize → AcordePiece
+pieceEntry (refused n) = record { number = n; sizes = 0; events = 0 }
+pieceEntry (given s) = record { number = 0; sizes = s .sizes; events = s .events }

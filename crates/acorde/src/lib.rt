@@ -3,8 +3,10 @@ ghost use mathlib.Core.Path.{_≡_};
 ghost use Rattle.rules.specs.Lists.{flag};
 ghost use Rattle.rules.specs.Piece.{piece};
 ghost use Rattle.rules.specs.Calls.{headCall, partCountCall, partHeadCall, barsCall, automationCall, diagnosticsCall, partSize, staffSizeCall, engraveCall, proofReadCall, BarsCalled, StaffSizeCalled, EngraveCalled, AutomationCalled, DiagnosticsCalled, ProofReadCalled};
+ghost use Rattle.rules.specs.Calls.{readSizeCall, readCall, ReadCalled};
 ghost use lib.ListN.{length};
-ghost use Rattle.acorde.specs.Entries.{headValues, headEntry, countEntry, partHeadEntry, automationEntry, staffEntry, readingEntry};
+ghost use Rattle.acorde.specs.Entries.{headValues, headEntry, countEntry, partHeadEntry, automationEntry, staffEntry, readingEntry, pieceEntry};
+ghost use Rattle.files.specs.Answers.{pieceAnswer};
 
 mod values;
 
@@ -12,6 +14,7 @@ use automation::AutomationAnswer;
 use bars::BarsAnswer;
 use changes::Head;
 use diagnostics::DiagnosticsAnswer;
+use files::PieceAnswer;
 use heads::HeadAnswer;
 use heads::PartCountAnswer;
 use heads::PartHeadAnswer;
@@ -58,6 +61,13 @@ pub struct AcordeStaff {
     pub items: usize,
 }
 
+#[repr(C)]
+pub struct AcordePiece {
+    pub number: u32,
+    pub sizes: usize,
+    pub events: usize,
+}
+
 // right is 1 for yes, 0 for no.
 #[repr(C)]
 pub struct AcordeReading {
@@ -83,6 +93,45 @@ fn head_values(h: Head) -> AcordeHead
         fifths: h.fifths,
         minor: flag(h.minor),
     }
+}
+
+// How a file's piece is told.
+fn piece_values(answer: PieceAnswer) -> AcordePiece
+    ensures { λ r. ⌜ r ≡ pieceEntry (pieceAnswer answer) ⌝ }
+{
+    match answer {
+        PieceAnswer::Refused(number) => AcordePiece {
+            number,
+            sizes: 0,
+            events: 0,
+        },
+        PieceAnswer::Given(s) => AcordePiece {
+            number: 0,
+            sizes: s.sizes,
+            events: s.events,
+        },
+    }
+}
+
+#[no_mangle]
+pub extern "C" fn acorde_read_size(bytes: &[u8]) -> AcordePiece
+    ensures { λ r. ⌜ r ≡ pieceEntry (readSizeCall (now (bytes .entry))) ⌝ }
+{
+    piece_values(files::read_size(bytes))
+}
+
+#[no_mangle]
+pub extern "C" fn acorde_read(
+    bytes: &[u8],
+    sizes: &mut [u32],
+    deltas: &mut [u32],
+    words: &mut [u32],
+) -> AcordePiece
+    ensures { λ r. ⌜ ReadCalled pieceEntry
+        (readCall (now (bytes .entry)) (length (now (sizes .entry))) (length (now (deltas .entry))) (length (now (words .entry))))
+        (now (sizes .entry)) (now (deltas .entry)) (now (words .entry)) r (now (sizes .exit)) (now (deltas .exit)) (now (words .exit)) ⌝ }
+{
+    piece_values(files::read(bytes, sizes, deltas, words))
 }
 
 #[no_mangle]

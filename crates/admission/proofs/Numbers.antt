@@ -14,7 +14,7 @@ use Rattle.rules.specs.Piece.{Piece, division, sizesAgree, wellFormed}
 use Rattle.admission.specs.Bad.{bad}
 use Rattle.rules.specs.Refusals.{refused, Refusal, unless, firstNumber, eventRefusals, pieceRefusals, mostEvents, largestDelta}
 use Rattle.laws.specs.Admitted.{Passes, Admitted}
-use Rattle.laws.proofs.Refusals.{Agree, sizes-agree, admitted, Numbered, number-passes, number-refused}
+use Rattle.laws.proofs.Refusals.{Agree, sizes-agree, admitted, piece-numbers, number-passes, number-refused}
 use Rattle.laws.proofs.Order.{by-bool}
 
 -- ---- sizes
@@ -64,17 +64,7 @@ module _ (x : Piece) where
       unfolding firstNumber pieceRefusals
       number-event l = rw (s, ne-eqb (division x) 0 d, le-ltb mostEvents (length (x .deltas)) l)
 
--- ---- what an answer says: each number is above 0
-
-event-numbers : (ds ws : List ℕ) → Numbered (eventRefusals ds ws)
-unfolding eventRefusals
-event-numbers [] ws = tt
-event-numbers (d ∷ ds) [] = tt
-event-numbers (d ∷ ds) (w ∷ ws) = (omega arith, (omega arith, event-numbers ds ws))
-
-pub piece-numbers : (x : Piece) → Numbered (pieceRefusals x)
-unfolding pieceRefusals
-piece-numbers x = (omega arith, (omega arith, (omega arith, event-numbers (x .deltas) (x .words))))
+-- ---- what an answer says
 
 -- an answer of 0
 pub passes : (x : Piece) → firstNumber (pieceRefusals x) ≡ 0 → Passes (pieceRefusals x)

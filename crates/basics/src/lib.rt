@@ -15,6 +15,9 @@ pub const MOST_BARS: usize = 10000;
 
 pub const LARGEST_DELTA: u32 = 268435455;
 
+// The most bytes of a file.
+pub const MOST_BYTES: usize = 67108864;
+
 // The words of a work area for at most n notes in one track.
 pub fn work_for(n: usize) -> usize
     requires { ⌜ n ≤ mostEvents ⌝ }

@@ -2,8 +2,13 @@ pub mod Arrays
 pub mod BarLaws
 pub mod ChordLaws
 pub mod Exact
+pub mod FileBounds
+pub mod FileMeaning
+pub mod FileSteps
+pub mod FileWords
 pub mod Filling
 pub mod Folds
+pub mod Grammar
 pub mod Grid
 pub mod HashOrder
 pub mod KeyBits
@@ -14,6 +19,7 @@ pub mod NoteRanges
 pub mod Notes
 pub mod Order
 pub mod Orders
+pub mod Parsed
 pub mod Parts
 pub mod Places
 pub mod Reflection

@@ -74,6 +74,16 @@ number-after (r ∷ rs) ss h = rw (h .0) (number-after rs ss (h .1))
 
 -- ---- numbers 1 to 5
 
+event-numbers : (ds ws : List ℕ) → Numbered (eventRefusals ds ws)
+unfolding eventRefusals
+event-numbers [] ws = tt
+event-numbers (d ∷ ds) [] = tt
+event-numbers (d ∷ ds) (w ∷ ws) = (omega arith, (omega arith, event-numbers ds ws))
+
+pub piece-numbers : (x : Piece) → Numbered (pieceRefusals x)
+unfolding pieceRefusals
+piece-numbers x = (omega arith, (omega arith, (omega arith, event-numbers (x .deltas) (x .words))))
+
 events-pass : (ds ws : List ℕ) → length ds ≡ length ws → Passes (eventRefusals ds ws)
     → All (λ d. d ≤ largestDelta) ds × All (λ w. wellFormed w ≡ true) ws
 unfolding eventRefusals

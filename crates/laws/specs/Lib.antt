@@ -1,12 +1,16 @@
 pub mod Admitted
 pub mod Claims
 pub mod Exact
+pub mod FileMeaning
+pub mod Files
+pub mod Grammar
 pub mod HashOrder
 pub mod Ladder
 pub mod Lines
 pub mod NoteWords
 pub mod Notes
 pub mod Orders
+pub mod Parsed
 pub mod Parts
 pub mod Places
 pub mod Says

@@ -8,7 +8,7 @@ use lib.IntN.{ℤ}
 use Rattle.rules.specs.Lists.{All, keep, firstOr, isEmpty}
 use Rattle.rules.specs.Piece.{Piece, Event, firstTrack, isOn, wellFormed}
 use Rattle.rules.specs.Standard.{Meaning, noteOff, noteOn, keyPressure, controlChange, programChange, channelPressure, pitchBend, setTempo}
-use Rattle.rules.specs.Standard.{timeSignature, keySignature, sequencerSpecific, systemExclusive}
+use Rattle.rules.specs.Standard.{timeSignature, keySignature, sequencerSpecific, systemEvent}
 use Rattle.rules.specs.Meanings.{meaning, markerData}
 use Rattle.rules.specs.RawNotes.{NoteEvent, noteEvents, hasNotes}
 use Rattle.rules.specs.Changes.{Change, Meter, Key, PartHead, tempoOf, clampFifths, tempoChanges, meterChanges, keyChanges, partHead}
@@ -44,7 +44,7 @@ pub data TempoOf (e : Event) : Meaning → Change ℕ → Type 0 where
   tempo : {v : ℕ} → (v ≡ 0 → ⊥) → TempoOf e (setTempo v) (record { tick = e .tick; to = tempoOf v })
 
 pub data MeterOf (e : Event) : Meaning → Change Meter → Type 0 where
-  meter : {u l : ℕ} → MeterOf e (timeSignature u l) (record { tick = e .tick; to = record { upper = u; lower = l } })
+  meter : {u l : ℕ} → MeterOf e (timeSignature u l []) (record { tick = e .tick; to = record { upper = u; lower = l } })
 
 pub data KeyOf (e : Event) : Meaning → Change Key → Type 0 where
   key : {f : ℤ} {m : Bool} → KeyOf e (keySignature f m) (record { tick = e .tick; to = record { fifths = clampFifths f; minor = m } })
@@ -103,10 +103,10 @@ OffMeasure l t = (0 < t) × (t % l ≡ 0 → ⊥) × (l ≡ 0 → ⊥)
 
 pub data OffMeasureOf (l : ℕ) (e : Event) : Meaning → Diagnostic → Type 0 where
   tempo : {v : ℕ} → OffMeasure l (e .tick) → OffMeasureOf l e (setTempo v) (atEvent 2 0 e)
-  meter : {u k : ℕ} → OffMeasure l (e .tick) → OffMeasureOf l e (timeSignature u k) (atEvent 2 0 e)
+  meter : {u k : ℕ} → OffMeasure l (e .tick) → OffMeasureOf l e (timeSignature u k []) (atEvent 2 0 e)
 
 pub data SystemOf (track : ℕ) (e : Event) : Meaning → Diagnostic → Type 0 where
-  system : SystemOf track e systemExclusive (atEvent 3 track e)
+  system : SystemOf track e systemEvent (atEvent 3 track e)
 
 -- ---- what is claimed
 

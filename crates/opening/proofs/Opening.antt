@@ -15,12 +15,11 @@ use Rattle.rules.specs.Refusals.{refused, Refusal, refuse, firstNumber, unless,
 use Rattle.laws.specs.Admitted.{Passes, Admitted}
 use Rattle.laws.proofs.Lists.{All-append, All-left, All-right, All-get}
 use Rattle.laws.proofs.Places.{none-empty, some-left}
-use Rattle.laws.proofs.Refusals.{admitted, passes-append, Numbered, number-first, number-after, number-refused, number-passes}
+use Rattle.laws.proofs.Refusals.{admitted, passes-append, Numbered, number-first, number-after, number-refused, number-passes, piece-numbers}
 use Rattle.track_events.specs.Track.{Track, eventsOf, stretch}
 use Rattle.tracks.specs.Spans.{IsSpan}
 use Rattle.tracks.specs.declared.Span.{Span}
 use Rattle.tracks.proofs.Cuts.{span-track}
-use Rattle.admission.proofs.Numbers.{piece-numbers}
 use Rattle.tracks.proofs.Ranges.{ons, parts-most, most-few}
 use Rattle.opening.specs.declared.Opened.{Opened}
 use Rattle.opening.specs.declared.OpenedPart.{OpenedPart}

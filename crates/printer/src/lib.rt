@@ -119,8 +119,8 @@ fn print_counted(sizes: &[u32], deltas: &[u32], words: &[u32], parts: u32) {
     print_parts(sizes, deltas, words, parts, &mut work);
 }
 
-// A piece, or its refusal.
-fn print_piece(sizes: &[u32], deltas: &[u32], words: &[u32]) {
+// Prints a piece, or its refusal.
+pub fn print_piece(sizes: &[u32], deltas: &[u32], words: &[u32]) {
     match heads::part_count(sizes, deltas, words) {
         PartCountAnswer::Refused(number) => part_pages::print_refused(number),
         PartCountAnswer::Given(parts) => print_counted(sizes, deltas, words, parts),

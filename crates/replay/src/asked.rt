@@ -3,7 +3,7 @@ use replay_text::FAULT;
 
 pub fn one(
     buf: &mut [u8; 65536],
-    st: &mut [usize; 8],
+    st: &mut [usize; 9],
     sizes: &[u32],
     deltas: &[u32],
     words: &[u32],

@@ -10,7 +10,7 @@ use replay_text::PIECE;
 // The calls of a piece, in arrays that are lent to each.
 fn each_call(
     buf: &mut [u8; 65536],
-    st: &mut [usize; 8],
+    st: &mut [usize; 9],
     sizes: &[u32],
     deltas: &[u32],
     words: &[u32],
@@ -37,7 +37,7 @@ fn each_call(
 // The calls of a piece.
 fn calls_of(
     buf: &mut [u8; 65536],
-    st: &mut [usize; 8],
+    st: &mut [usize; 9],
     sizes: &[u32],
     deltas: &[u32],
     words: &[u32],
@@ -63,18 +63,8 @@ fn calls_of(
     );
 }
 
-// A piece's number, which is the next.
-fn piece_number(buf: &mut [u8; 65536], st: &mut [usize; 8]) {
-    let n = replay_text::number(buf, st, true);
-    if n != st[PIECE] as u64 {
-        if st[FAULT] == 0 {
-            replay_text::says(st, b"another number in the list");
-        }
-    }
-}
-
 // How many numbers a list has: those of the text or, where `zeros` is not 0, so many zeros.
-fn events(buf: &mut [u8; 65536], st: &mut [usize; 8], l: &mut [u32], zeros: usize) -> usize {
+fn events(buf: &mut [u8; 65536], st: &mut [usize; 9], l: &mut [u32], zeros: usize) -> usize {
     let n = replay_text::narrow_list(buf, st, l);
     if zeros == 0 {
         return n;
@@ -86,12 +76,12 @@ fn events(buf: &mut [u8; 65536], st: &mut [usize; 8], l: &mut [u32], zeros: usiz
 // A piece: its arrays, then its calls. Where `zeros` is not 0, so many events of delta 0 and word 0 are the piece's.
 fn piece(
     buf: &mut [u8; 65536],
-    st: &mut [usize; 8],
+    st: &mut [usize; 9],
     sizes: &mut [u32; 4096],
     deltas: &mut [u32; 500008],
     words: &mut [u32; 500008],
 ) {
-    piece_number(buf, st);
+    replay_text::item_number(buf, st);
     let zeros = replay_text::limited(buf, st, 500008);
     let ns = replay_text::narrow_list(buf, st, sizes);
     let nd = events(buf, st, deltas, zeros);
@@ -105,23 +95,10 @@ fn piece(
     );
 }
 
-// What stands behind the last piece, and the last line.
-fn finish(buf: &mut [u8; 65536], st: &mut [usize; 8], pieces: u64) {
-    if st[FAULT] != 0 {
-        replay_text::fault_line(st);
-    } else {
-        replay_text::number(buf, st, true);
-        if st[FAULT] != replay_text::ENDS {
-            replay_text::says(st, b"more than the list's pieces");
-        }
-    }
-    replay_text::total(st, pieces);
-}
-
 // The whole list.
 fn replay(
     buf: &mut [u8; 65536],
-    st: &mut [usize; 8],
+    st: &mut [usize; 9],
     sizes: &mut [u32; 4096],
     deltas: &mut [u32; 500008],
     words: &mut [u32; 500008],
@@ -136,12 +113,12 @@ fn replay(
         piece(buf, st, sizes, deltas, words);
         i += 1;
     }
-    finish(buf, st, i);
+    replay_text::finish(buf, st, i);
 }
 
 fn main() {
     let mut buf = [0u8; 65536];
-    let mut st = [0usize; 8];
+    let mut st = [0usize; 9];
     let mut sizes = [0u32; 4096];
     let mut deltas = [0u32; 500008];
     let mut words = [0u32; 500008];

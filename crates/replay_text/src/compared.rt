@@ -6,14 +6,20 @@ use crate::state::FAULT;
 use replayed::Asked;
 
 // What an array must hold: the list of the text at its front, and behind it what stood there before the call. False where the text has no such list.
-fn expected(buf: &mut [u8; 65536], st: &mut [usize; 8], wanted: &mut [u64]) -> bool {
+fn expected(buf: &mut [u8; 65536], st: &mut [usize; 9], wanted: &mut [u64]) -> bool {
     replayed::fill(wanted);
     input::list(buf, st, wanted);
     st[FAULT] == 0
 }
 
 // A list of the text against an array of u64.
-fn check(buf: &mut [u8; 65536], st: &mut [usize; 8], want: &mut [u64], found: &[u64], what: usize) {
+pub fn check(
+    buf: &mut [u8; 65536],
+    st: &mut [usize; 9],
+    want: &mut [u64],
+    found: &[u64],
+    what: usize,
+) {
     let n = found.len();
     if want.len() < n {
         state::fault(st, state::LONG);
@@ -26,9 +32,9 @@ fn check(buf: &mut [u8; 65536], st: &mut [usize; 8], want: &mut [u64], found: &[
 }
 
 // The same, against an array of u32.
-fn check_narrow(
+pub fn check_narrow(
     buf: &mut [u8; 65536],
-    st: &mut [usize; 8],
+    st: &mut [usize; 9],
     want: &mut [u64],
     found: &[u32],
     what: usize,
@@ -47,7 +53,7 @@ fn check_narrow(
 // What the call left, against the list: its answer, its lists, each in the room asked, and the work area, which is zero. A call without one is lent none.
 pub fn compare(
     buf: &mut [u8; 65536],
-    st: &mut [usize; 8],
+    st: &mut [usize; 9],
     want: &mut [u64; 45056],
     q: Asked,
     said: &[u64; 8],

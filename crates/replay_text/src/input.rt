@@ -10,7 +10,7 @@ use replayed::Asked;
 use replayed::Scanned;
 
 // The next chunk; false where there is none.
-fn refill(buf: &mut [u8; 65536], st: &mut [usize; 8]) -> bool {
+fn refill(buf: &mut [u8; 65536], st: &mut [usize; 9]) -> bool {
     let got = libc::read(0, buf);
     let n = io::count(got, buf);
     st[AT] = 0;
@@ -19,7 +19,7 @@ fn refill(buf: &mut [u8; 65536], st: &mut [usize; 8]) -> bool {
 }
 
 // Reads on in the chunk.
-fn scan_chunk(buf: &[u8], st: &mut [usize; 8], label: bool, known: Scanned) -> Scanned {
+fn scan_chunk(buf: &[u8], st: &mut [usize; 9], label: bool, known: Scanned) -> Scanned {
     let end = st[END];
     if buf.len() < end {
         return known;
@@ -30,7 +30,7 @@ fn scan_chunk(buf: &[u8], st: &mut [usize; 8], label: bool, known: Scanned) -> S
 }
 
 // The value of a number that has ended; 0 and a fault for what is none. The input's end ends a number, too.
-fn settle(st: &mut [usize; 8], found: Scanned) -> u64 {
+fn settle(st: &mut [usize; 9], found: Scanned) -> u64 {
     match found {
         Scanned::Number(value) => value,
         Scanned::Inside(value) => value,
@@ -50,7 +50,7 @@ fn settle(st: &mut [usize; 8], found: Scanned) -> u64 {
 }
 
 // The next number. Where a label may stand, it is passed over. After a fault: 0.
-pub fn number(buf: &mut [u8; 65536], st: &mut [usize; 8], label: bool) -> u64 {
+pub fn number(buf: &mut [u8; 65536], st: &mut [usize; 9], label: bool) -> u64 {
     if st[FAULT] != 0 {
         return 0;
     }
@@ -70,7 +70,7 @@ pub fn number(buf: &mut [u8; 65536], st: &mut [usize; 8], label: bool) -> u64 {
 }
 
 // The same, of 32 bits.
-pub fn narrow(buf: &mut [u8; 65536], st: &mut [usize; 8], label: bool) -> u32 {
+pub fn narrow(buf: &mut [u8; 65536], st: &mut [usize; 9], label: bool) -> u32 {
     let n = number(buf, st, label);
     if n <= 4294967295 {
         n as u32
@@ -80,8 +80,19 @@ pub fn narrow(buf: &mut [u8; 65536], st: &mut [usize; 8], label: bool) -> u32 {
     }
 }
 
+// The same, of 8 bits and in a list.
+fn byte(buf: &mut [u8; 65536], st: &mut [usize; 9]) -> u8 {
+    let n = number(buf, st, false);
+    if n <= 255 {
+        n as u8
+    } else {
+        state::fault(st, state::LARGE);
+        0
+    }
+}
+
 // A count, which is no more than a limit; 0 and a fault where it is more.
-pub fn limited(buf: &mut [u8; 65536], st: &mut [usize; 8], most: usize) -> usize
+pub fn limited(buf: &mut [u8; 65536], st: &mut [usize; 9], most: usize) -> usize
     ensures { λ r. ⌜ r ≤ most ⌝ }
 {
     let n = number(buf, st, true);
@@ -94,7 +105,7 @@ pub fn limited(buf: &mut [u8; 65536], st: &mut [usize; 8], most: usize) -> usize
 }
 
 // A list, to the front of an array.
-pub fn list(buf: &mut [u8; 65536], st: &mut [usize; 8], out: &mut [u64]) {
+pub fn list(buf: &mut [u8; 65536], st: &mut [usize; 9], out: &mut [u64]) {
     let n = limited(buf, st, out.len());
     let mut i = 0;
     while i < n {
@@ -104,7 +115,7 @@ pub fn list(buf: &mut [u8; 65536], st: &mut [usize; 8], out: &mut [u64]) {
 }
 
 // The same, of 32 bits: how many numbers it has.
-pub fn narrow_list(buf: &mut [u8; 65536], st: &mut [usize; 8], out: &mut [u32]) -> usize {
+pub fn narrow_list(buf: &mut [u8; 65536], st: &mut [usize; 9], out: &mut [u32]) -> usize {
     let n = limited(buf, st, out.len());
     let mut i = 0;
     while i < n {
@@ -114,8 +125,19 @@ pub fn narrow_list(buf: &mut [u8; 65536], st: &mut [usize; 8], out: &mut [u32]) 
     n
 }
 
+// The same, of 8 bits.
+pub fn byte_list(buf: &mut [u8; 65536], st: &mut [usize; 9], out: &mut [u8]) -> usize {
+    let n = limited(buf, st, out.len());
+    let mut i = 0;
+    while i < n {
+        out[i] = byte(buf, st);
+        i += 1;
+    }
+    n
+}
+
 // The next call that is asked.
-pub fn next_call(buf: &mut [u8; 65536], st: &mut [usize; 8]) -> Asked {
+pub fn next_call(buf: &mut [u8; 65536], st: &mut [usize; 9]) -> Asked {
     let code = limited(buf, st, 99);
     let part = narrow(buf, st, true);
     let a = limited(buf, st, ROOM);

@@ -4,14 +4,15 @@ use crate::state::CALL;
 use crate::state::CALLS;
 use crate::state::CODE;
 use crate::state::FAULT;
+use crate::state::KIND;
 use crate::state::PIECE;
 use crate::state::WRONG;
 use replayed::Difference;
 
 fn call_name(code: usize) {
     let names =
-        b"no such call \x00head \x00part count \x00part head \x00bars \x00staff size \x00engrave \x00automation \x00diagnostics ";
-    let n = if 8 < code { 0 } else { code };
+        b"no such call \x00head \x00part count \x00part head \x00bars \x00staff size \x00engrave \x00automation \x00diagnostics \x00read size \x00read ";
+    let n = if 10 < code { 0 } else { code };
     io::write_all(1, texts::nth(names, n));
 }
 
@@ -23,11 +24,11 @@ fn list_place(code: usize, what: usize) -> usize {
     if what == 5 {
         return 2;
     }
-    if 8 < code {
-        return 12;
+    if 10 < code {
+        return 14;
     }
     if 8 < what {
-        return 12;
+        return 14;
     }
     match code * 8 + what {
         33 => 3,
@@ -39,26 +40,29 @@ fn list_place(code: usize, what: usize) -> usize {
         59 => 9,
         65 => 10,
         66 => 11,
+        81 => 12,
+        82 => 13,
+        83 => 9,
         _ => 0,
     }
 }
 
 fn list_name(code: usize, what: usize) {
     let names =
-        b"list\x00answer\x00work\x00starts\x00marks\x00keys\x00counts\x00heads\x00ticks\x00words\x00places\x00details";
+        b"list\x00answer\x00work\x00starts\x00marks\x00keys\x00counts\x00heads\x00ticks\x00words\x00places\x00details\x00sizes\x00deltas";
     io::write_all(1, texts::nth(names, list_place(code, what)));
 }
 
 // A line's begin. Each is a disagreement.
-fn begin(st: &mut [usize; 8]) {
+fn begin(st: &mut [usize; 9]) {
     state::count(st, WRONG);
-    io::write_all(1, b"piece ");
+    io::write_all(1, texts::nth(b"piece \x00file ", st[KIND]));
     io::print_decimal(1, st[PIECE] as u64);
     io::write_all(1, b": ");
 }
 
 // A line where a list differs.
-pub fn differs(st: &mut [usize; 8], what: usize, found: Difference) {
+pub fn differs(st: &mut [usize; 9], what: usize, found: Difference) {
     if let Difference::At(i) = found {
         begin(st);
         io::write_all(1, b"call ");
@@ -73,14 +77,14 @@ pub fn differs(st: &mut [usize; 8], what: usize, found: Difference) {
 }
 
 // A line on the list itself.
-pub fn says(st: &mut [usize; 8], text: &[u8]) {
+pub fn says(st: &mut [usize; 9], text: &[u8]) {
     begin(st);
     io::write_all(1, text);
     io::write_all(1, b"\n");
 }
 
 // A line where the list could not be read to its end.
-pub fn fault_line(st: &mut [usize; 8]) {
+pub fn fault_line(st: &mut [usize; 9]) {
     let reasons =
         b"too long\x00the list ends early\x00no number where one is due\x00too large a number";
     let n = if state::LARGE < st[FAULT] {
@@ -92,9 +96,9 @@ pub fn fault_line(st: &mut [usize; 8]) {
 }
 
 // The last line.
-pub fn total(st: &[usize; 8], pieces: u64) {
-    io::print_decimal(1, pieces);
-    io::write_all(1, b" pieces, ");
+pub fn total(st: &[usize; 9], items: u64) {
+    io::print_decimal(1, items);
+    io::write_all(1, texts::nth(b" pieces, \x00 files, ", st[KIND]));
     io::print_decimal(1, st[CALLS] as u64);
     io::write_all(1, b" calls, ");
     io::print_decimal(1, st[WRONG] as u64);

@@ -1,3 +1,4 @@
 pub mod Cases
+pub mod FileLimits
 pub mod Limits
 pub mod Meanings

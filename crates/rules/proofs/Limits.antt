@@ -8,11 +8,10 @@ use borrow.Author.Tests.{eq-eqb, lt-ltb, le-ltb, lt-leb, le-leb}
 use lib.Dec.{leb, ltb}
 use lib.ListN.{length, replicate, length-replicate, length-take}
 use Rattle.rules.specs.Lists.{keep, any, sum}
-use Rattle.rules.specs.Piece.{Piece, Event, timed, cutTracks, sizesAgree, wellFormed}
+use Rattle.rules.specs.Piece.{Piece, Event, timed, cutTracks, sizesAgree, wellFormed, word}
 use Rattle.rules.specs.RawNotes.{hasNotes, parts}
 use Rattle.rules.specs.Refusals.{Refusal, unless, eventRefusals, pieceRefusals, workNeeded}
 use Rattle.rules.specs.Calls.{headCall, diagnosticsCall}
-use Rattle.rules.specs.FurtherExamples.{word}
 use Rattle.rules.specs.RefusalExamples.{numberOf, manyEvents, manyTracks, manyNotes, AtTheLimits}
 
 -- a work area has some words

@@ -11,7 +11,8 @@ use lib.IntN.{subℕ}
 use Rattle.rules.specs.Piece.{kindOf, byteA, byteB, byteC, isKind, tempoValue, isOn, isOff, wellFormed}
 use Rattle.rules.specs.Piece.{upperFigure, lowerFigure, signedFifths, isMinor, bendValue}
 use Rattle.rules.specs.Standard.{Meaning, noteOff, noteOn, keyPressure, controlChange, programChange, channelPressure, pitchBend, setTempo}
-use Rattle.rules.specs.Standard.{timeSignature, keySignature, sequencerSpecific, endOfTrack, otherMeta, systemExclusive, unknown}
+use Rattle.rules.specs.Standard.{timeSignature, keySignature, sequencerSpecific, meta, systemExclusive, escape, endOfTrack}
+use Rattle.rules.specs.Standard.{otherMeta, systemEvent, unknown}
 use Rattle.rules.specs.Standard.{noteOnOrOff, bigEndian}
 use Rattle.rules.specs.Meanings.{markerData, meaningOf, meaning, ReadAsStandard}
 use Rattle.rules.proofs.Cases.{by-bool, by-or}
@@ -19,9 +20,9 @@ use Rattle.rules.proofs.Cases.{by-bool, by-or}
 -- the kind that a meaning has in the table; 15 is none
 kindNamed : Meaning → ℕ
 kindNamed otherMeta = 0
-kindNamed systemExclusive = 1
+kindNamed systemEvent = 1
 kindNamed (setTempo v) = 2
-kindNamed (timeSignature u l) = 3
+kindNamed (timeSignature u l bs) = 3
 kindNamed (keySignature f m) = 4
 kindNamed (sequencerSpecific bs) = 5
 kindNamed endOfTrack = 6
@@ -32,6 +33,9 @@ kindNamed (controlChange ch n v) = 11
 kindNamed (programChange ch v) = 12
 kindNamed (channelPressure ch v) = 13
 kindNamed (pitchBend ch v) = 14
+kindNamed (meta type bs) = 15
+kindNamed (systemExclusive bs) = 15
+kindNamed (escape bs) = 15
 kindNamed unknown = 15
 
 -- the kinds of the table: 0 to 14 but 7
@@ -51,7 +55,7 @@ on-named ch x zero = refl
 on-named ch x (suc v) = rw (ne-eqb (suc v) 0 (omega arith))
 
 -- a number from n on is n or above n
-up : (P : ℕ → Type 0) (k n : ℕ) → n ≤ k → P n → (n < k → P k) → P k
+pub up : (P : ℕ → Type 0) (k n : ℕ) → n ≤ k → P n → (n < k → P k) → P k
 up P k n h at-n above =
     elim (by-bool (eqb k n)) [
       | inl t ↦ rw (eqb-true k n t) at-n
@@ -173,7 +177,7 @@ module _ (w : ℕ) where
   unfolding meaningOf
   tempo-is h = let bytes : bigEndian (byteA w ∷ byteB w ∷ byteC w ∷ []) ≡ tempoValue w = omega arith in of-kind 2 h ∙ ap setTempo bytes
 
-  meter-is : isKind 3 w ≡ true → meaning w ≡ timeSignature (upperFigure w) (lowerFigure w)
+  meter-is : isKind 3 w ≡ true → meaning w ≡ timeSignature (upperFigure w) (lowerFigure w) []
   unfolding meaningOf
   meter-is = of-kind 3
 
@@ -200,9 +204,9 @@ module _ (w : ℕ) where
   read-as-standard =
       record {
         other = (λ e. only otherMeta refl e .0, of-kind 0);
-        system = (λ e. only systemExclusive refl e .0, of-kind 1);
+        system = (λ e. only systemEvent refl e .0, of-kind 1);
         tempo = λ v. (λ e. let s = only (setTempo v) refl e in let is = tempo-is (s .0) in (s .0, cc), λ h. rw (h .1) (tempo-is (h .0)));
-        meter = λ u l. (λ e. let s = only (timeSignature u l) refl e in let is = meter-is (s .0) in (s .0, cc, cc), λ h. rw (h .1, h .2) (meter-is (h .0)));
+        meter = λ u l. (λ e. let s = only (timeSignature u l []) refl e in let is = meter-is (s .0) in (s .0, cc, cc), λ h. rw (h .1, h .2) (meter-is (h .0)));
         key = λ f m. (λ e. let s = only (keySignature f m) refl e in let is = key-is (s .0) in (s .0, cc, cc), λ h. rw (h .1, h .2) (key-is (h .0)));
         marker = λ bs. (λ e. let s = only (sequencerSpecific bs) refl e in let is = marker-is (s .0) in (s .0, cc), λ h. rw (h .1) (marker-is (h .0)));
         end = (λ e. only endOfTrack refl e .0, of-kind 6);

@@ -20,6 +20,7 @@ use Rattle.rules.specs.ProofReaderTests.{verdict, even?}
 use Rattle.rules.specs.Automation.{AutomationLists, automationLists}
 use Rattle.rules.specs.Diagnostics.{Diagnostic, diagnostics, placeOf, detailOf}
 use Rattle.rules.specs.Spelling.{Spelling, spelled}
+use Rattle.rules.specs.File.{filePiece, fileRefusals}
 
 -- part k's track
 abbrev pub partTrack : Piece → ℕ → List Event
@@ -180,3 +181,36 @@ beatsCall code dots = unless (badCode code ∷ badDots dots ∷ []) (beats256 co
 
 abbrev pub spellingCall : ℕ → Result Spelling
 spellingCall key = unless (badKey key ∷ []) (spelled key)
+
+-- ---- files: 11, 12, 13, 12, 1 to 5, 8
+
+-- how many sizes and how many events a piece has
+pub record PieceSize : Type 0 where
+  pub sizes : ℕ
+  pub events : ℕ
+
+abbrev pub pieceSize : Piece → PieceSize
+pieceSize x = record { sizes = length (x .sizes); events = length (x .deltas) }
+
+abbrev pub readSizeCall : List ℕ → Result PieceSize
+readSizeCall bs = unless (fileRefusals bs) (pieceSize (filePiece bs))
+
+-- the file's bytes, and the room for sizes, deltas and words
+abbrev pub readCall : List ℕ → ℕ → ℕ → ℕ → Result Piece
+readCall bs room-sizes room-deltas room-words =
+    unless
+    (fileRefusals bs
+    ++ (shortOutput room-sizes (filePiece bs .sizes)
+    ∷ shortOutput room-deltas (filePiece bs .deltas)
+    ∷ shortOutput room-words (filePiece bs .words)
+    ∷ []))
+    (filePiece bs)
+
+-- It answers the piece's size.
+pub record ReadCalled
+    {A : Type 0} (told : Result PieceSize → A) (r : Result Piece) (sizes₀ deltas₀ words₀ : List ℕ) (answer : A) (sizes₁ deltas₁ words₁ : List ℕ)
+    : Type 0 where
+  pub answered : answer ≡ told (answers pieceSize r)
+  pub sizes : sizes₁ ≡ written (writes (λ (x : Piece). x .sizes) r) sizes₀
+  pub deltas : deltas₁ ≡ written (writes (λ (x : Piece). x .deltas) r) deltas₀
+  pub words : words₁ ≡ written (writes (λ (x : Piece). x .words) r) words₀

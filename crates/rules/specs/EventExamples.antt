@@ -7,7 +7,7 @@ use lib.Dec.{eqb}
 use lib.IntN.{pos, negsuc}
 use mathlib.Core.Path.{_≡_, refl}
 use Rattle.rules.specs.Lists.{keep, any, insert, sortBy, flag}
-use Rattle.rules.specs.Piece.{Piece, piece, ticksPerQuarter, timed, cutTracks, firstTrack, wellFormed}
+use Rattle.rules.specs.Piece.{Piece, piece, ticksPerQuarter, timed, cutTracks, firstTrack, wellFormed, word}
 use Rattle.rules.specs.RawNotes.{withoutOldest, pairOne, rawNotesOf}
 use Rattle.rules.specs.Changes.{Key, Head, head, PartHead, partHead}
 use Rattle.rules.specs.Bars.{barsFrom, endOfPiece, barsUpTo, starts, markOf, printedFrom, marksFrom, marks}
@@ -16,7 +16,7 @@ use Rattle.rules.specs.Automation.{AutomationLists, automationLists, can
 use Rattle.rules.specs.Diagnostics.{Diagnostic, diagnostics, inTracks}
 use Rattle.rules.specs.Calls.{places, details}
 use Rattle.rules.specs.Examples.{Row, row, given, wanted, signed, meter}
-use Rattle.rules.specs.FurtherExamples.{word, oneTrack}
+use Rattle.rules.specs.FurtherExamples.{oneTrack}
 
 -- ---- section 1: the table of kinds at its edges
 

@@ -5,7 +5,7 @@ use mathlib.Core.List.{List, [], _∷_, map, flatMap, flatten}
 use mathlib.Core.Path.{_≡_, refl}
 use lib.ListN.{length, getD}
 use Rattle.rules.specs.Lists.{keep, any, every, position, changeFirst, insert, sortBy, flag}
-use Rattle.rules.specs.Piece.{Piece, firstTrack, timed, cutTracks}
+use Rattle.rules.specs.Piece.{Piece, firstTrack, timed, cutTracks, word}
 use Rattle.rules.specs.RawNotes.{RawNote, rawNotes, withoutOldest, pairOne, rawNotesOf}
 use Rattle.rules.specs.Changes.{tempoOf, head}
 use Rattle.rules.specs.Bars.{barsFrom, endOfPiece, barsUpTo, starts, printedFrom, marksFrom, marks}
@@ -43,10 +43,7 @@ fiveInTurn = note 0 1920 60 ∷ note 120 1920 62 ∷ note 240 1920 64 ∷ note 3
 abbrev pub oneShorter : List RawNote
 oneShorter = note 0 1920 60 ∷ note 120 1800 62 ∷ note 240 1920 64 ∷ note 360 1920 65 ∷ note 480 1920 67 ∷ []
 
--- a word, and a piece of one track at 480
-abbrev pub word : ℕ → ℕ → ℕ → ℕ → ℕ
-word kind a b c = kind * 2 ^ 24 + a * 2 ^ 16 + b * 2 ^ 8 + c
-
+-- a piece of one track at 480
 abbrev pub oneTrack : List ℕ → List ℕ → Piece
 oneTrack ds ws = record { sizes = 480 ∷ 1 ∷ length ws ∷ []; deltas = ds; words = ws }
 

@@ -16,9 +16,11 @@ pub mod ProofReaderTests
 pub mod Automation
 pub mod Diagnostics
 pub mod Refusals
+pub mod File
 pub mod Calls
 pub mod Examples
 pub mod FurtherExamples
 pub mod EventExamples
 pub mod RefusalExamples
 pub mod ReadingExamples
+pub mod FileExamples

@@ -1,15 +1,17 @@
 -- What a word means, by the two standards: document 01's table of kinds, each kind as the bytes that the standards' tables give a meaning.
 use Prim.Native.Nat.{ℕ}
-use mathlib.Core.Bool.{Bool, true, cond}
+use mathlib.Core.Bool.{Bool, true, cond, _&&_}
 use mathlib.Core.List.{List, [], _∷_}
 use mathlib.Core.Logic.{_↔_}
 use mathlib.Core.Path.{_≡_}
 use lib.Dec.{eqb}
 use lib.IntN.{ℤ}
+use lib.ListN.{length, getD}
 use Rattle.rules.specs.Piece.{kindOf, byteA, byteB, byteC, isKind, channelOf, tempoValue, upperFigure, lowerFigure, signedFifths, isMinor}
 use Rattle.rules.specs.Piece.{bendValue, isOn, isOff, wellFormed}
 use Rattle.rules.specs.Standard.{Meaning, noteOff, noteOn, keyPressure, controlChange, programChange, channelPressure, pitchBend, setTempo}
-use Rattle.rules.specs.Standard.{timeSignature, keySignature, sequencerSpecific, endOfTrack, otherMeta, systemExclusive, unknown}
+use Rattle.rules.specs.Standard.{timeSignature, keySignature, sequencerSpecific, meta, systemExclusive, escape, endOfTrack}
+use Rattle.rules.specs.Standard.{otherMeta, systemEvent, unknown}
 use Rattle.rules.specs.Standard.{channelVoice, metaEvent}
 
 -- The marker (serialize.rs): the letters ACRD1, a base and a spare channel.
@@ -21,7 +23,7 @@ unfoldable pub meaningOf : ℕ → ℕ → ℕ → ℕ → Meaning
 meaningOf kind a b c =
     -- 0, 1: another meta event, a system event
     cond (eqb kind 0) otherMeta
-    (cond (eqb kind 1) systemExclusive
+    (cond (eqb kind 1) systemEvent
     -- 2: FF 51 03 a b c
     (cond (eqb kind 2) (metaEvent 0x51 (a ∷ b ∷ c ∷ []))
     -- 3: FF 58 04 a b, and two bytes that are not kept
@@ -38,15 +40,49 @@ meaningOf kind a b c =
 abbrev pub meaning : ℕ → Meaning
 meaning w = meaningOf (kindOf w) (byteA w) (byteB w) (byteC w)
 
+-- ---- what the table keeps
+
+-- A sequencer meta of seven bytes beginning ACRD1 is a marker.
+abbrev pub isMarker : List ℕ → Bool
+isMarker bs =
+    eqb (length bs) 7
+    && eqb (getD bs 0 0) 0x41
+    && eqb (getD bs 1 0) 0x43
+    && eqb (getD bs 2 0) 0x52
+    && eqb (getD bs 3 0) 0x44
+    && eqb (getD bs 4 0) 0x31
+
+-- What document 01's table keeps of a meaning: all other metas, and sequencer metas that are no marker, are one; F0 and F7 are one; a meter loses its
+-- last two bytes; everything else is unchanged.
+unfoldable pub kept : Meaning → Meaning
+kept (meta type bs) = otherMeta
+kept (sequencerSpecific bs) = cond (isMarker bs) (sequencerSpecific bs) otherMeta
+kept (systemExclusive bs) = systemEvent
+kept (escape bs) = systemEvent
+kept (timeSignature u l bs) = timeSignature u l []
+kept (noteOff ch k v) = noteOff ch k v
+kept (noteOn ch k v) = noteOn ch k v
+kept (keyPressure ch k v) = keyPressure ch k v
+kept (controlChange ch n v) = controlChange ch n v
+kept (programChange ch p) = programChange ch p
+kept (channelPressure ch v) = channelPressure ch v
+kept (pitchBend ch v) = pitchBend ch v
+kept (setTempo v) = setTempo v
+kept (keySignature f m) = keySignature f m
+kept otherMeta = otherMeta
+kept systemEvent = systemEvent
+kept endOfTrack = endOfTrack
+kept unknown = unknown
+
 -- ---- what is claimed
 
 -- Document 01's table reads each word as the standards mean it: a word means one thing, with these values, exactly if its test in the table holds
 -- and the values are those that the sections read.
 pub record ReadAsStandard (w : ℕ) : Type 0 where
   pub other : (meaning w ≡ otherMeta) ↔ (isKind 0 w ≡ true)
-  pub system : (meaning w ≡ systemExclusive) ↔ (isKind 1 w ≡ true)
+  pub system : (meaning w ≡ systemEvent) ↔ (isKind 1 w ≡ true)
   pub tempo : (v : ℕ) → (meaning w ≡ setTempo v) ↔ ((isKind 2 w ≡ true) × (v ≡ tempoValue w))
-  pub meter : (u l : ℕ) → (meaning w ≡ timeSignature u l) ↔ ((isKind 3 w ≡ true) × (u ≡ upperFigure w) × (l ≡ lowerFigure w))
+  pub meter : (u l : ℕ) → (meaning w ≡ timeSignature u l []) ↔ ((isKind 3 w ≡ true) × (u ≡ upperFigure w) × (l ≡ lowerFigure w))
   pub key : (f : ℤ) (m : Bool) → (meaning w ≡ keySignature f m) ↔ ((isKind 4 w ≡ true) × (f ≡ signedFifths w) × (m ≡ isMinor w))
   pub marker : (bs : List ℕ) → (meaning w ≡ sequencerSpecific bs) ↔ ((isKind 5 w ≡ true) × (bs ≡ markerData (byteA w) (byteB w)))
   pub end : (meaning w ≡ endOfTrack) ↔ (isKind 6 w ≡ true)

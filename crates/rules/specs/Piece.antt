@@ -90,6 +90,10 @@ byteB w = w / 2 ^ 8 % 256
 abbrev pub byteC : ℕ → ℕ
 byteC w = w % 256
 
+-- a word from its bytes
+abbrev pub word : ℕ → ℕ → ℕ → ℕ → ℕ
+word kind a b c = kind * 2 ^ 24 + a * 2 ^ 16 + b * 2 ^ 8 + c
+
 abbrev pub isKind : ℕ → ℕ → Bool
 isKind k w = eqb (kindOf w) k
 

@@ -4,7 +4,7 @@ use mathlib.Core.Bool.{Bool}
 use mathlib.Core.List.{List, [], _∷_, flatMap}
 use mathlib.Core.Path.{_≡_, refl}
 use Rattle.rules.specs.Lists.{keep, any, every, insert, sortBy, below, sum, flag}
-use Rattle.rules.specs.Piece.{Piece, piece, sizesAgree, timed, cutTracks, wellFormed}
+use Rattle.rules.specs.Piece.{Piece, piece, sizesAgree, timed, cutTracks, wellFormed, word}
 use Rattle.rules.specs.RawNotes.{withoutOldest, pairOne, rawNotesOf, mostNotes}
 use Rattle.rules.specs.Bars.{barsFrom, endOfPiece, barsUpTo}
 use Rattle.rules.specs.Grid.{isOffGrid, grid}
@@ -15,7 +15,7 @@ use Rattle.rules.specs.ProofReaderTests.{full?, tied?, endsMeant?, right
 use Rattle.rules.specs.Refusals.{Result, refused, given as answered, unless, eventRefusals, pieceRefusals}
 use Rattle.rules.specs.Calls.{proofReadCall}
 use Rattle.rules.specs.Examples.{Row, one, given, wanted}
-use Rattle.rules.specs.FurtherExamples.{word, oneTrack, printedPiece, lateNote}
+use Rattle.rules.specs.FurtherExamples.{oneTrack, printedPiece, lateNote}
 
 -- 1 yes, 0 no; a refusal is its number and 100
 abbrev pub answer : Result Bool → ℕ

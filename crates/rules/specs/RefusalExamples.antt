@@ -4,7 +4,7 @@ use mathlib.Core.List.{List, [], _∷_, flatMap, flatten}
 use mathlib.Core.Path.{_≡_, refl}
 use lib.ListN.{length, replicate}
 use Rattle.rules.specs.Lists.{keep, any, every, position, changeFirst, insert, sortBy, sum, written, cleared}
-use Rattle.rules.specs.Piece.{Piece, piece, sizesAgree, timed, cutTracks, wellFormed}
+use Rattle.rules.specs.Piece.{Piece, piece, sizesAgree, timed, cutTracks, wellFormed, word}
 use Rattle.rules.specs.RawNotes.{withoutOldest, pairOne, rawNotesOf, parts, mostNotes}
 use Rattle.rules.specs.Bars.{barsFrom, endOfPiece, barsUpTo, printedFrom, marksFrom}
 use Rattle.rules.specs.Grid.{isOffGrid, grid}
@@ -19,7 +19,7 @@ use Rattle.rules.specs.Refusals.{Result, refused, given as answered, unl
 use Rattle.rules.specs.Calls.{headCall, partCountCall, partHeadCall, barsCall, staffSizeCall, engraveCall, automationCall, diagnosticsCall, proofReadCall}
 use Rattle.rules.specs.Calls.{BarLists, beatsCall, spellingCall}
 use Rattle.rules.specs.Examples.{Row, row, one, given, wanted}
-use Rattle.rules.specs.FurtherExamples.{word, printedPiece}
+use Rattle.rules.specs.FurtherExamples.{printedPiece}
 
 -- a call's number, 0 where it is answered
 abbrev pub numberOf : {A : Type 0} → Result A → ℕ

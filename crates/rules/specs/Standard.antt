@@ -1,6 +1,6 @@
 -- What an event means by the two standards that document 01's table of kinds follows: MIDI 1.0 (Detailed Specification, Table II, Channel Voice
 -- Messages) and Standard MIDI Files 1.0 (Events; Meta-Event Definitions).
-use Prim.Native.Nat.{ℕ, zero, suc, _+_, _*_, _^_}
+use Prim.Native.Nat.{ℕ, zero, suc, _+_, _*_, _/_, _%_, _^_}
 use mathlib.Core.Bool.{Bool, cond}
 use mathlib.Core.List.{List, [], _∷_, foldl}
 use lib.Dec.{eqb, ltb}
@@ -17,13 +17,19 @@ pub data Meaning : Type 0 where
   pitchBend : ℕ → ℤ → Meaning
   -- microseconds per quarter
   setTempo : ℕ → Meaning
-  -- upper figure, lower figure
-  timeSignature : ℕ → ℕ → Meaning
+  -- upper figure, lower figure, and the bytes behind them: clocks in a click, 32nds in a quarter
+  timeSignature : ℕ → ℕ → List ℕ → Meaning
   -- fifths, minor
   keySignature : ℤ → Bool → Meaning
   -- data of a maker's own
   sequencerSpecific : List ℕ → Meaning
-  endOfTrack otherMeta systemExclusive unknown : Meaning
+  -- a meta event of any other type: its type, its data
+  meta : ℕ → List ℕ → Meaning
+  -- F0 and F7 of a file: their data
+  systemExclusive escape : List ℕ → Meaning
+  -- another meta event, a system event, of which nothing more is known
+  otherMeta systemEvent : Meaning
+  endOfTrack unknown : Meaning
 
 -- A Note On with velocity 0 is a Note Off (MIDI 1.0, Note On).
 abbrev pub noteOnOrOff : ℕ → ℕ → ℕ → Meaning
@@ -63,7 +69,7 @@ tempoMeta bs = setTempo (bigEndian bs)
 
 -- FF 58 04 nn dd cc bb Time Signature: the denominator is a negative power of two
 abbrev pub timeSignatureMeta : List ℕ → Meaning
-timeSignatureMeta (nn ∷ dd ∷ rest) = timeSignature nn (2 ^ dd)
+timeSignatureMeta (nn ∷ dd ∷ rest) = timeSignature nn (2 ^ dd) rest
 timeSignatureMeta [] = unknown
 timeSignatureMeta (nn ∷ []) = unknown
 
@@ -80,4 +86,19 @@ metaEvent type bs =
     (cond (eqb type 0x51) (tempoMeta bs)
     (cond (eqb type 0x58) (timeSignatureMeta bs)
     (cond (eqb type 0x59) (keySignatureMeta bs)
-    (cond (eqb type 0x7f) (sequencerSpecific bs) otherMeta))))
+    (cond (eqb type 0x7f) (sequencerSpecific bs) (meta type bs)))))
+
+-- An event of a file, behind its delta-time: <MIDI event> | <sysex event> | <meta-event>.
+pub data Message : Type 0 where
+  -- a channel message: its status byte and two data bytes, the second 0 where it has one only
+  channel : ℕ → ℕ → ℕ → Message
+  -- F0 or F7, its data
+  system : ℕ → List ℕ → Message
+  -- FF: its type, its data
+  meta : ℕ → List ℕ → Message
+
+-- the meaning that the standards give it; F0 is system exclusive, F7 its escape
+abbrev pub messageMeaning : Message → Meaning
+messageMeaning (Message.channel s x y) = channelVoice (s / 0x10) (s % 0x10) x y
+messageMeaning (Message.system s bs) = cond (eqb s 0xf0) (systemExclusive bs) (escape bs)
+messageMeaning (Message.meta type bs) = metaEvent type bs

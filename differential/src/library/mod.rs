@@ -1,11 +1,9 @@
-//! The proved library's C entries, behind safe functions.
-
-mod lent;
+//! The proved library's C entries, behind safe functions. Those that read files are in `files::entries`.
 
 use crate::checked::Checked;
+pub use crate::lent::{Cell, Lent};
 use crate::packed::Staff;
 use crate::piece::Piece;
-pub use lent::{Cell, Lent};
 
 #[repr(C)]
 #[derive(Debug, Clone, Copy, PartialEq, Eq, Default)]

@@ -11,6 +11,7 @@ use crate::examples::EXAMPLES;
 use crate::piece::Piece;
 use crate::{generate, reference};
 use choice::Choice;
+pub use text::numbers;
 
 /// The list of a seed and what its pieces reach. The pieces are chosen from the first `count`.
 pub fn of_seed(seed: u64, count: u64) -> (String, Report) {

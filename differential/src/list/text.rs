@@ -58,7 +58,8 @@ fn call(text: &mut String, asked: &Asked) {
     }
 }
 
-fn numbers<T: Display>(text: &mut String, label: &str, list: &[T]) {
+/// A label, the list's length and its numbers.
+pub fn numbers<T: Display>(text: &mut String, label: &str, list: &[T]) {
     write!(text, "{label} {}:", list.len()).expect("a string");
     for number in list {
         write!(text, " {number}").expect("a string");

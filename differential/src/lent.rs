@@ -1,4 +1,4 @@
-//! Arrays lent to the library. Each stands between two canaries.
+//! Arrays lent to a C entry. Each stands between two canaries.
 
 use crate::checked::Checked;
 use std::fmt::LowerHex;
@@ -10,6 +10,16 @@ pub trait Cell: Copy + PartialEq + LowerHex {
 
     /// What stands at an index before the call: never 0, and another at each index.
     fn content(index: usize) -> Self;
+}
+
+impl Cell for u8 {
+    const CANARY: Self = 0xa5;
+    const ZERO: Self = 0;
+
+    /// Bytes are inputs alone: this one repeats.
+    fn content(index: usize) -> Self {
+        !(index as Self >> 1)
+    }
 }
 
 impl Cell for u32 {
