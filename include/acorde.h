@@ -52,7 +52,7 @@
    TIME
 
    The two calls on a file take time in proportion to its bytes: acorde_read_size passes them once, acorde_read twice.
-   On a desk machine that is up to 0.02 seconds for 500,000 events, and up to 0.3 seconds for the largest files.
+   On a desk machine that is up to 0.03 seconds for 500,000 events, and up to 0.3 seconds for the largest files.
 
    Each call on a piece admits and reads the whole piece again, whatever part it is asked for, and zeroes all of the
    work area that it is lent. So an import of all parts, some calls for each, takes time in proportion to parts *
