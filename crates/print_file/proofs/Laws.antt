@@ -1,6 +1,5 @@
 -- What was written into an array fits it, so the array holds the piece.
 use Prim.Native.Nat.{ℕ, _≤_}
-use mathlib.Core.Bool.{Bool, true, false, true≢false}
 use mathlib.Core.List.{List}
 use mathlib.Core.Path.{_≡_, ap}
 use native.Mathlib.Omega.{arith}
@@ -8,32 +7,24 @@ use lib.ListN.{length, drop, length-append}
 use Rattle.rules.specs.Lists.{written}
 use Rattle.rules.specs.Piece.{Piece}
 use Rattle.rules.specs.Refusals.{Result, refused, given, asItIs}
-use Rattle.rules.specs.Calls.{PieceSize, ReadCalled}
+use Rattle.rules.specs.Calls.{PieceSize, pieceSize, ReadCalled}
 use Rattle.files.specs.declared.PieceAnswer as answer
 use Rattle.files.specs.Answers.{pieceAnswer}
 use Rattle.print_file.specs.Held.{Held}
-
-isGiven : Result PieceSize → Bool
-isGiven (refused n) = false
-isGiven (given s) = true
-
-sizesOr : ℕ → Result PieceSize → ℕ
-sizesOr n (refused k) = n
-sizesOr n (given s) = s .sizes
-
-eventsOr : ℕ → Result PieceSize → ℕ
-eventsOr n (refused k) = n
-eventsOr n (given s) = s .events
 
 fits : (xs l l₁ : List ℕ) → l₁ ≡ written xs l → length xs ≤ length l₁
 fits xs l l₁ h = rw h (omega (arith, length-append xs (drop (length xs) l)))
 
 pub held : (r : Result Piece) (a : answer.PieceAnswer) (s d w s₁ d₁ w₁ : List ℕ) → ReadCalled asItIs r s d w (pieceAnswer a) s₁ d₁ w₁
     → Held a (length s₁) (length d₁)
-unfolding isGiven sizesOr eventsOr
 held r (answer.the-variants.Refused n) s d w s₁ d₁ w₁ h = tt
-held (refused n) (answer.the-variants.Given z) s d w s₁ d₁ w₁ h = absurd (true≢false (ap isGiven (h .answered)))
+held (refused n) (answer.the-variants.Given z) s d w s₁ d₁ w₁ h =
+    let answered = h .answered in
+    let z : _≡_ {A = ℕ} 0 1 = cc in
+    absurd (omega arith)
 held (given x) (answer.the-variants.Given z) s d w s₁ d₁ w₁ h =
-    let sizes : z .sizes ≡ length (x .sizes) = ap (sizesOr 0) (h .answered) in
-    let events : z .events ≡ length (x .deltas) = ap (eventsOr 0) (h .answered) in
+    let answered = h .answered in
+    let same : record { sizes = z .sizes; events = z .events } ≡ pieceSize x = cc in
+    let sizes : z .sizes ≡ length (x .sizes) = ap (λ (p : PieceSize). p .sizes) same in
+    let events : z .events ≡ length (x .deltas) = ap (λ (p : PieceSize). p .events) same in
     (rw sizes (fits (x .sizes) s s₁ (h .sizes)), rw events (fits (x .deltas) d d₁ (h .deltas)))
