@@ -7,6 +7,7 @@ pub mod arbitrary;
 #[cfg(feature = "library")]
 pub mod bench;
 pub mod checked;
+pub mod clock;
 #[cfg(feature = "library")]
 pub mod compare;
 pub mod coverage;

@@ -1,9 +1,9 @@
 -- Numbers 1 to 5: sizes that agree, the first bad event, the answer by number, and what an answer says.
-use Prim.Native.Nat.{ℕ, _+_, _≤_, _<_}
+use Prim.Native.Nat.{ℕ, zero, suc, _+_, _-_, _≤_, _<_}
 use mathlib.Core.Bool.{true, false, not, cond}
 use mathlib.Core.List.{List, [], _∷_, _++_}
 use mathlib.Core.Logic.{⊎-elim}
-use mathlib.Core.Path.{_≡_, _∙_}
+use mathlib.Core.Path.{_≡_, refl, _∙_}
 use native.Mathlib.Numerals.{add-one}
 use native.Mathlib.Omega.{arith}
 use borrow.Author.Tests.{eq-eqb, ne-eqb, le-leb, lt-ltb, le-ltb}
@@ -11,7 +11,7 @@ use lib.Dec.{ltb}
 use lib.ListN.{length, getD, drop-of-length-le}
 use lib.Seq.{drop-cons}
 use Rattle.rules.specs.Piece.{Piece, division, sizesAgree, wellFormed}
-use Rattle.admission.specs.Bad.{bad}
+use Rattle.admission.specs.Bad.{bad, FirstBad, AllSmall, AllFormed}
 use Rattle.rules.specs.Refusals.{refused, Refusal, unless, firstNumber, eventRefusals, pieceRefusals, mostEvents, largestDelta}
 use Rattle.laws.specs.Admitted.{Passes, Admitted}
 use Rattle.laws.proofs.Refusals.{Agree, sizes-agree, admitted, piece-numbers, number-passes, number-refused}
@@ -39,6 +39,17 @@ module _ (ds ws : List ℕ) (i : ℕ) (h : i < length ds) (k : i < length ws) wh
 
   pub bad-later : getD ds i 0 ≤ largestDelta → wellFormed (getD ws i 0) ≡ true → bad ds ws i ≡ bad ds ws (i + 1)
   bad-later l w = bad-cons ∙ rw (le-ltb largestDelta (getD ds i 0) l, w)
+
+-- past a block of good events
+module _ (ds ws : List ℕ) (from to : ℕ) (same : length ws ≡ length ds) (l : to ≤ length ds) (small : AllSmall ds from to) (formed : AllFormed ws from to) where
+  after : (n i : ℕ) → from ≤ i → i + n ≡ to → bad ds ws i ≡ bad ds ws to
+  after zero i f e = let here : i ≡ to = omega arith in rw here
+  after (suc n) i f e =
+      bad-later ds ws i (omega arith) (omega arith) (small .each i f (omega arith)) (formed .each i f (omega arith))
+      ∙ after n (i + 1) (omega arith) (omega arith)
+
+  pub none-bad : from ≤ to → FirstBad ds ws from to 0
+  none-bad h = record { none = λ z. after (to - from) from (omega arith) (omega arith); some = λ z. absurd (z refl) }
 
 pub bad-none : (ds ws : List ℕ) (i : ℕ) → length ds ≤ i → bad ds ws i ≡ 0
 unfolding firstNumber eventRefusals

@@ -36,7 +36,7 @@ fn write_automation(
     if out.len() < all {
         return AutomationAnswer::Refused(8);
     }
-    automation_events::collect_automation(deltas, words, p, dropped, ticks, out);
+    automation_events::collect_automation(deltas, words, p, dropped, counts, ticks, out);
     AutomationAnswer::Given(counts)
 }
 

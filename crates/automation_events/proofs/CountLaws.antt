@@ -64,26 +64,25 @@ module _ {ws : List ℕ} {dropped : List Bool} {i : ℕ} {s : Counts} (counting 
 
 -- ---- the counts' bounds and sum
 
-pub counts-few : {ds ws : List ℕ} → Track ds ws → {r : Counts} → AreCounts (eventsOf ds ws) r → AtMost mostEvents r
+pub count-is : {es : List Event} {r : Counts} → AreCounts es r → (k : Kind) → countOf k r ≡ length (automation (isOne k) es)
 unfolding automationLists
-counts-few {ds} {ws} track {r} counts =
+count-is counts Bend = counts .bends 0
+count-is counts Controller = counts .controllers 0
+count-is counts Program = counts .programs 0
+count-is counts Pressure = counts .pressures 0
+
+pub counts-few : {ds ws : List ℕ} → Track ds ws → {r : Counts} → AreCounts (eventsOf ds ws) r → AtMost mostEvents r
+counts-few {ds} {ws} track counts =
     record {
-      each = λ k. elim k [
-        | Bend ↦ few Bend (counts .bends 0)
-        | Controller ↦ few Controller (counts .controllers 0)
-        | Program ↦ few Program (counts .programs 0)
-        | Pressure ↦ few Pressure (counts .pressures 0)
-      ];
+      each = λ k.
+          omega (
+            arith,
+            count-is counts k,
+            keep-few (λ (e : Event). isOne k (e .word) && not (isDropped (eventsOf ds ws) (channelOf (e .word)))) (eventsOf ds ws),
+            timed-length 0 0 ds ws (track .same),
+            track .few,
+          );
     }
-  where
-    few : (k : Kind) → countOf k r ≡ length (automation (isOne k) (eventsOf ds ws)) → countOf k r ≤ mostEvents
-    few k e =
-        omega (
-          arith,
-          keep-few (λ (e : Event). isOne k (e .word) && not (isDropped (eventsOf ds ws) (channelOf (e .word)))) (eventsOf ds ws),
-          timed-length 0 0 ds ws (track .same),
-          track .few,
-        )
 
 module _ {es : List Event} {r : Counts} (counts : AreCounts es r) (p : ℕ) where
   total : length (allAutomation es) ≡ r .bends + r .controllers + r .programs + r .pressures

@@ -12,9 +12,11 @@ use Rattle.track_events.specs.Track.{eventsOf}
 use Rattle.automation_events.specs.declared.Kind.{Kind}
 use Rattle.automation_events.specs.declared.Kind.the-variants.{Bend, Controller, Program, Pressure}
 use Rattle.automation_events.specs.declared.Choice.{Choice}
-use Rattle.automation_events.specs.Kinds.{isOne}
+use Rattle.automation_events.specs.declared.Counts.{Counts}
+use Rattle.automation_events.specs.Kinds.{isOne, countOf}
 use Rattle.automation_events.specs.Writing.{choiceOf, chosenOf, HasRoom, Collected, CanCollect}
 use Rattle.laws.proofs.Places.{written-more, length-written}
+use Rattle.automation_events.proofs.CountLaws.{count-is}
 use Rattle.automation_events.proofs.KindLaws.{wanted-automation}
 
 -- the events of the lists so far, and where the next goes
@@ -26,7 +28,8 @@ pub record Stage (p : ℕ) (done : List Event) (ticks₀ out₀ : List ℕ) (n :
 pub stage-start : (p : ℕ) (ticks₀ out₀ : List ℕ) → Stage p [] ticks₀ out₀ 0 ticks₀ out₀
 stage-start p ticks₀ out₀ = record { count = refl; inTicks = refl; inWords = refl }
 
-module _ {ds ws : List ℕ} {p : ℕ} {dropped : List Bool} {ticks₀ out₀ : List ℕ} (can : CanCollect ds ws p dropped ticks₀ out₀) where
+module _ {ds ws : List ℕ} {p : ℕ} {dropped : List Bool} {counts : Counts} {ticks₀ out₀ : List ℕ}
+    (can : CanCollect ds ws p dropped counts ticks₀ out₀) where
   abbrev listOf : Kind → List Event
   listOf k = automation (isOne k) (eventsOf ds ws)
 
@@ -53,7 +56,7 @@ module _ {ds ws : List ℕ} {p : ℕ} {dropped : List Bool} {ticks₀ out₀ : L
         }
 
     pub stage-room : (k : Kind) {x : Choice} → x ≡ choiceOf dropped p k → length done + length (listOf k) ≤ length (allAutomation (eventsOf ds ws))
-        → HasRoom (eventsOf ds ws) x n ticks out
+        → HasRoom (eventsOf ds ws) x (countOf k counts) n ticks out
     unfolding automationLists
     stage-room k e fits =
         let tick : Event → ℕ = λ e. automationTick p (e .tick) in
@@ -66,6 +69,7 @@ module _ {ds ws : List ℕ} {p : ℕ} {dropped : List Bool} {ticks₀ out₀ : L
         rw e (record {
           positive = can .positive;
           small = can .small;
+          counted = omega (arith, count-is (can .counted) k);
           ticks = omega (arith, stage .count, ap length (stage .inTicks));
           words = omega (arith, stage .count, ap length (stage .inWords));
         })

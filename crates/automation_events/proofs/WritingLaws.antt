@@ -11,7 +11,8 @@ use lib.Seq.{length-take-le}
 use Rattle.rules.specs.Lists.{keep, sum}
 use Rattle.rules.specs.Piece.{Event}
 use Rattle.rules.specs.Automation.{automationTick}
-use Rattle.laws.proofs.Order.{by-bool}
+use Rattle.laws.proofs.Order.{by-bool, by-lt}
+use Rattle.laws.proofs.Places.{no-elements}
 use Rattle.laws.proofs.Filling.{Filling, filling-count, filling-more, filling-end}
 use Rattle.track_events.specs.Track.{Track, eventsOf, left, tickAt}
 use Rattle.track_events.proofs.Tracks.{left-cons, left-none, tick-next, track-sum, formed-at}
@@ -43,7 +44,8 @@ sum-none = refl
 filling-room : {all coming : List ℕ} {n : ℕ} {l₀ l : List ℕ} → Filling all coming n l₀ l → length all ≤ length l₀ → 0 < length coming → n < length l
 filling-room f h k = omega (arith, filling-count f, f .kept)
 
-module _ {ds ws : List ℕ} (track : Track ds ws) (x : Choice) (n : ℕ) {ticks₀ out₀ : List ℕ} (room : HasRoom (eventsOf ds ws) x n ticks₀ out₀) where
+module _ {ds ws : List ℕ} (track : Track ds ws) (x : Choice) {count : ℕ} (n : ℕ) {ticks₀ out₀ : List ℕ}
+    (room : HasRoom (eventsOf ds ws) x count n ticks₀ out₀) where
   pub midway-start : Midway ds ws x n ticks₀ out₀ n 0 0 ticks₀ out₀
   midway-start =
       record {
@@ -63,6 +65,24 @@ module _ {ds ws : List ℕ} (track : Track ds ws) (x : Choice) (n : ℕ) {ticks�
   module _ {r t i : ℕ} {ticks out : List ℕ} (midway : Midway ds ws x n ticks₀ out₀ r t i ticks out) where
     pub tick-reached : t < 2 ^ 47
     tick-reached = let s = track-sum track i (midway .inside) in omega (arith, midway .tick)
+
+    -- those written and those to come are the whole list
+    to-come : r + length (chosenOf x (left t i ds ws)) ≡ n + count
+    to-come =
+        let tick : Event → ℕ = λ e. automationTick (x .p) (e .tick) in
+        let all = all-length tick (chosenOf x (eventsOf ds ws)) n ticks₀ (omega (arith, room .ticks)) in
+        omega (arith, filling-count (midway .inTicks), length-map (chosenOf x (left t i ds ws)) tick, room .counted)
+
+    -- before the end, an event is still to come
+    pub more-left : r < n + count → i < length ds
+    unfolding keep
+    more-left h =
+        elim (by-lt i (length ds)) [
+          | inl k ↦ k
+          | inr k ↦
+              let none : r + 0 ≡ n + count = rw (left-none t i ds ws k) at to-come in
+              absurd (omega arith)
+        ]
 
     -- the events to come at the event i
     module _ (h : i < length ds) where
@@ -117,11 +137,9 @@ module _ {ds ws : List ℕ} (track : Track ds ws) (x : Choice) (n : ℕ) {ticks�
                 })
           ]
 
-    pub midway-end : length ds ≤ i → Collected (eventsOf ds ws) x n ticks₀ out₀ r ticks out
-    unfolding keep
+    pub midway-end : n + count ≤ r → Collected (eventsOf ds ws) x n ticks₀ out₀ r ticks out
     midway-end h =
-        let none = left-none t i ds ws h in
+        let none = no-elements (chosenOf x (left t i ds ws)) (omega (arith, to-come)) in
         let inTicks : Filling (take n ticks₀ ++ ticksOf x (eventsOf ds ws)) [] r ticks₀ ticks = rw none at (midway .inTicks) in
         let inWords : Filling (take n out₀ ++ wordsOf x (eventsOf ds ws)) [] r out₀ out = rw none at (midway .inWords) in
-        let all = all-length (λ (e : Event). automationTick (x .p) (e .tick)) (chosenOf x (eventsOf ds ws)) n ticks₀ (omega (arith, room .ticks)) in
-        record { next = omega (arith, filling-count inTicks); ticks = filling-end inTicks; words = filling-end inWords }
+        record { next = omega (arith, to-come, room .counted, ap length none); ticks = filling-end inTicks; words = filling-end inWords }

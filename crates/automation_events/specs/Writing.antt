@@ -10,8 +10,9 @@ use Rattle.rules.specs.Automation.{automationTick, automationLists}
 use Rattle.track_events.specs.Track.{Track, eventsOf}
 use Rattle.automation_events.specs.declared.Choice.{Choice}
 use Rattle.automation_events.specs.declared.Kind.{Kind}
+use Rattle.automation_events.specs.declared.Counts.{Counts}
 use Rattle.auxiliary_channels.specs.Markers.{Drops}
-use Rattle.automation_events.specs.Kinds.{wanted}
+use Rattle.automation_events.specs.Kinds.{wanted, AreCounts}
 
 abbrev pub choiceOf : List Bool → ℕ → Kind → Choice
 choiceOf dropped p k = record { kind = k; dropped = dropped; p = p }
@@ -46,9 +47,11 @@ ticksOf x es = map (λ (e : Event). automationTick (x .p) (e .tick)) (chosenOf x
 abbrev pub wordsOf : Choice → List Event → List ℕ
 wordsOf x es = map (λ (e : Event). e .word) (chosenOf x es)
 
-pub record HasRoom (es : List Event) (x : Choice) (n : ℕ) (ticks₀ out₀ : List ℕ) : Type 0 where
+-- the list has count events, and the outputs have room for them from n on
+pub record HasRoom (es : List Event) (x : Choice) (count n : ℕ) (ticks₀ out₀ : List ℕ) : Type 0 where
   pub positive : 0 < x .p
   pub small : x .p ≤ largestSize
+  pub counted : count ≡ length (chosenOf x es)
   pub ticks : n + length (chosenOf x es) ≤ length ticks₀
   pub words : n + length (chosenOf x es) ≤ length out₀
 
@@ -60,10 +63,11 @@ pub record Collected (es : List Event) (x : Choice) (n : ℕ) (ticks₀ out₀ :
 
 -- ---- all lists
 
-pub record CanCollect (ds ws : List ℕ) (p : ℕ) (dropped : List Bool) (ticks₀ out₀ : List ℕ) : Type 0 where
+pub record CanCollect (ds ws : List ℕ) (p : ℕ) (dropped : List Bool) (counts : Counts) (ticks₀ out₀ : List ℕ) : Type 0 where
   pub track : Track ds ws
   pub drops : Drops (eventsOf ds ws) dropped
   pub positive : 0 < p
   pub small : p ≤ largestSize
+  pub counted : AreCounts (eventsOf ds ws) counts
   pub ticks : length (automationLists p (eventsOf ds ws) .ticks) ≤ length ticks₀
   pub words : length (automationLists p (eventsOf ds ws) .words) ≤ length out₀

@@ -147,23 +147,25 @@ fn put_chosen(
     }
 }
 
-// Writes one list from n on, in track order, and answers where the next goes.
+// Writes one list of count events from n on, in track order, and answers where the next goes.
 fn collect_kind(
     deltas: &[u32],
     words: &[u32],
     choice: Choice,
+    count: usize,
     n: usize,
     ticks: &mut [u64],
     out: &mut [u32],
 ) -> usize
-    requires { ⌜ Track (now deltas) (now words) × HasRoom (eventsOf (now deltas) (now words)) choice n (now ticks) (now out) ⌝ }
+    requires { ⌜ Track (now deltas) (now words) × HasRoom (eventsOf (now deltas) (now words)) choice count n (now ticks) (now out) ⌝ }
     ensures { λ r. ⌜ Collected (eventsOf (now (deltas .entry)) (now (words .entry))) choice n
         (now (ticks .entry)) (now (out .entry)) r (now (ticks .exit)) (now (out .exit)) ⌝ }
 {
+    let end = n + count;
     let mut next = n;
     let mut tick = SourceTick(0);
     let mut i = 0;
-    while i < deltas.len() {
+    while next < end {
         tick = tick.after(deltas[i]);
         next = put_chosen(ticks, out, next, choice, tick, words[i]);
         i += 1;
@@ -171,25 +173,26 @@ fn collect_kind(
     next
 }
 
-// Writes the four lists, kind after kind.
+// Writes the four lists, kind after kind; each pass ends with the last event of its list.
 pub fn collect_automation(
     deltas: &[u32],
     words: &[u32],
     p: u64,
     dropped: [bool; 16],
+    counts: Counts,
     ticks: &mut [u64],
     out: &mut [u32],
 )
-    requires { ⌜ CanCollect (now deltas) (now words) p dropped (now ticks) (now out) ⌝ }
+    requires { ⌜ CanCollect (now deltas) (now words) p dropped counts (now ticks) (now out) ⌝ }
     ensures ticks { λ _. ⌜ now (ticks .exit) ≡ written (automationLists p (eventsOf (now (deltas .entry)) (now (words .entry))) .ticks) (now (ticks .entry)) ⌝ }
     ensures words { λ _. ⌜ now (out .exit) ≡ written (automationLists p (eventsOf (now (deltas .entry)) (now (words .entry))) .words) (now (out .entry)) ⌝ }
 {
-    let bends = Choice::new(Kind::Bend, dropped, p);
-    let controllers = Choice::new(Kind::Controller, dropped, p);
-    let programs = Choice::new(Kind::Program, dropped, p);
-    let pressures = Choice::new(Kind::Pressure, dropped, p);
-    let n = collect_kind(deltas, words, bends, 0, ticks, out);
-    let n = collect_kind(deltas, words, controllers, n, ticks, out);
-    let n = collect_kind(deltas, words, programs, n, ticks, out);
-    collect_kind(deltas, words, pressures, n, ticks, out);
+    let bend = Choice::new(Kind::Bend, dropped, p);
+    let controller = Choice::new(Kind::Controller, dropped, p);
+    let program = Choice::new(Kind::Program, dropped, p);
+    let pressure = Choice::new(Kind::Pressure, dropped, p);
+    let n = collect_kind(deltas, words, bend, counts.bends, 0, ticks, out);
+    let n = collect_kind(deltas, words, controller, counts.controllers, n, ticks, out);
+    let n = collect_kind(deltas, words, program, counts.programs, n, ticks, out);
+    collect_kind(deltas, words, pressure, counts.pressures, n, ticks, out);
 }

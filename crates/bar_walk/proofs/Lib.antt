@@ -1,3 +1,4 @@
 pub mod Outputs
+pub mod SkipLaws
 pub mod StepLaws
 pub mod WalkLaws

@@ -2,9 +2,9 @@
 use Prim.Native.Nat.{ℕ, _+_, _≤_, _<_, _^_}
 use mathlib.Core.Bool.{Bool, true, false, cond, not, _&&_}
 use mathlib.Core.Path.{_≡_}
-use lib.Dec.{eqb, ltb}
+use lib.Dec.{eqb, leb, ltb}
 use lib.IntN.{pos, natAbs, _+ℤ_}
-use Rattle.rules.specs.Piece.{largestSize, isKind, wellFormed, tempoValue, upperFigure, lowerFigure, signedFifths, isMinor}
+use Rattle.rules.specs.Piece.{largestSize, kindOf, isKind, wellFormed, tempoValue, upperFigure, lowerFigure, signedFifths, isMinor}
 use Rattle.rules.specs.Changes.{Meter, sameMeter, tempoOf, clampFifths}
 use Rattle.rules.specs.Bars.{barLength}
 use Rattle.bar_marks.specs.Marks.{packed}
@@ -81,6 +81,27 @@ tookKey w word =
     withMarks w (meterIn w) (w .tempo)
     (cond (eqb (w .tick) (w .start)) (raisedFifths word) (w .fifths))
     (cond (eqb (w .tick) (w .start)) (isMinor word) (w .minor))
+
+-- a tempo, a meter or a key: kinds 2, 3 and 4
+abbrev pub isChange : ℕ → Bool
+isChange word = leb 2 (kindOf word) && leb (kindOf word) 4
+
+-- the walker before another event, with the tick reached before it
+abbrev pub withPlace : Walker → ℕ → ℕ → Walker
+withPlace w at tick =
+    record {
+      p = w .p;
+      upper = w .upper;
+      lower = w .lower;
+      «was_upper» = w .«was_upper»;
+      «was_lower» = w .«was_lower»;
+      start = w .start;
+      tempo = w .tempo;
+      fifths = w .fifths;
+      minor = w .minor;
+      at = at;
+      tick = tick;
+    }
 
 -- one event: a meter holds from it on; a tempo or a key is marked where the bar starts at its tick
 abbrev pub tookOne : Walker → ℕ → ℕ → Walker

@@ -1,17 +1,18 @@
 -- Where the walk stands, by the events of a track: between two events, and at a bar whose changes are taken.
-use Prim.Native.Nat.{ℕ, _≤_, _<_, _^_}
+use Prim.Native.Nat.{ℕ, _+_, _≤_, _<_, _^_}
+use mathlib.Core.Bool.{Bool, _||_}
 use mathlib.Core.List.{List}
 use mathlib.Core.Path.{_≡_}
-use lib.Dec.{leb}
+use lib.Dec.{leb, ltb}
 use lib.ListN.{length, take, drop}
-use Rattle.rules.specs.Lists.{keep, All, written}
+use Rattle.rules.specs.Lists.{keep, position, All, written}
 use Rattle.rules.specs.Piece.{Event, largestSize}
 use Rattle.rules.specs.Changes.{Meter, tempoChanges, meterChanges, keyChanges, firstMeter}
 use Rattle.rules.specs.Bars.{Bar, meterAt, tempoMark, keyMark, keyBits, startsOf, marksIn}
 use Rattle.track_events.specs.Track.{Track, eventsOf, tickAt}
 use Rattle.bar_marks.specs.Marks.{keyPacked}
 use Rattle.bar_walk.specs.declared.Walker.{Walker}
-use Rattle.bar_walk.specs.Steps.{meterIn, newWalker}
+use Rattle.bar_walk.specs.Steps.{meterIn, newWalker, isChange, withPlace}
 
 -- A track's meter in force at a tick.
 abbrev pub trackMeter : List ℕ → List ℕ → ℕ → Meter
@@ -53,6 +54,16 @@ pub record Ready (ds ws : List ℕ) (w : Walker) : Type 0 where
   pub track : Track ds ws
   pub taking : Taking ds ws w
   pub start : w .start < 2 ^ 48
+
+-- an event at which a walk to the tick t stops: a change, or one after t
+abbrev pub stopsAt : ℕ → Event → Bool
+stopsAt t e = ltb t (e .tick) || isChange (e .word)
+
+-- r is the walker w, moved on to the next change or to the first event after the bar's start
+pub record Skipped (ds ws : List ℕ) (w r : Walker) : Type 0 where
+  pub taking : Taking ds ws r
+  pub at : r .at ≡ w .at + position (stopsAt (w .start)) (leftFor ds ws w)
+  pub rest : r ≡ withPlace w (r .at) (r .tick)
 
 -- r is at the same bar as w, in the same walk
 pub record SameBar (w r : Walker) : Type 0 where

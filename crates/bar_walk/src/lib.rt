@@ -8,8 +8,8 @@ ghost use Rattle.rules.specs.Piece.{byteB};
 ghost use Rattle.rules.specs.Changes.{sameMeter};
 ghost use Rattle.rules.specs.Bars.{barLength, barsIn};
 ghost use Rattle.track_events.specs.Track.{Track, eventsOf};
-ghost use Rattle.bar_walk.specs.Steps.{meterIn, meterBefore, newWalker, raisedFifths, tookTempo, tookMeter, tookKey, tookOne, nextOf, markIn, Sane, Takes};
-ghost use Rattle.bar_walk.specs.Walk.{firstWalker, Ready, Settled, CanWalk, Room, BarsAre};
+ghost use Rattle.bar_walk.specs.Steps.{meterIn, meterBefore, newWalker, isChange, raisedFifths, tookTempo, tookMeter, tookKey, tookOne, nextOf, markIn, Sane, Takes};
+ghost use Rattle.bar_walk.specs.Walk.{firstWalker, Ready, Skipped, Settled, CanWalk, Room, BarsAre};
 
 // The walk along the bars. It stands at the start of a bar; the first `at` events are taken.
 pub struct Walker {
@@ -104,6 +104,30 @@ impl Walker {
         }
     }
 
+    // Skips the events at or before the bar's start that change nothing.
+    fn skip_to_change(mut self, deltas: &[u32], words: &[u32]) -> Self
+        requires { ⌜ Ready (now deltas) (now words) self ⌝ }
+        ensures { λ r. ⌜ Skipped (now (deltas .entry)) (now (words .entry)) self r ⌝ }
+    {
+        let start = self.start;
+        let mut at = self.at;
+        let mut tick = self.tick;
+        while at < deltas.len() {
+            let next = tick + deltas[at] as u64;
+            if start < next {
+                break;
+            }
+            if is_change(words[at]) {
+                break;
+            }
+            tick = next;
+            at += 1;
+        }
+        self.at = at;
+        self.tick = tick;
+        self
+    }
+
     // Takes every change at or before the bar's start.
     pub fn take_changes(self, deltas: &[u32], words: &[u32]) -> Self
         requires { ⌜ Ready (now deltas) (now words) self ⌝ }
@@ -116,7 +140,11 @@ impl Walker {
             if w.start < w.tick + delta as u64 {
                 return w;
             }
-            w = w.take_one(delta, words[at]);
+            if is_change(words[at]) {
+                w = w.take_one(delta, words[at]);
+            } else {
+                w = w.skip_to_change(deltas, words);
+            }
         }
         w
     }
@@ -177,6 +205,17 @@ impl Walker {
             minor: self.minor,
         })
     }
+}
+
+// Whether the word is a tempo, a meter or a key.
+fn is_change(word: u32) -> bool
+    ensures { λ r. ⌜ r ≡ isChange word ⌝ }
+{
+    let k = track_events::kind_of(word);
+    if k < 2 {
+        return false;
+    }
+    k <= 4
 }
 
 // A key's fifths + 8, 1 to 15.

@@ -7,12 +7,11 @@ use borrow.Author.Tests.{lt-ltb, le-ltb}
 use lib.ListN.{length, length-map}
 use Rattle.rules.specs.Lists.{written, cleared}
 use Rattle.rules.specs.Piece.{Piece}
+use Rattle.rules.specs.RawNotes.{mostNotes}
 use Rattle.rules.specs.Diagnostics.{Diagnostic, placeOf, detailOf, diagnostics}
-use Rattle.rules.specs.Refusals.{Result, refused, given, unless, pieceRefusals, workFor, shortOutput, asItIs}
+use Rattle.rules.specs.Refusals.{Result, refused, given, unless, firstNumber, pieceRefusals, workFor, shortOutput, asItIs}
 use Rattle.rules.specs.Calls.{diagnosticsCall, DiagnosticsCalled}
 use Rattle.laws.proofs.Places.{no-elements}
-use Rattle.opening.specs.declared.Opened.{Opened}
-use Rattle.opening.specs.Opening.{PieceOpened}
 use Rattle.opening.proofs.Opening.{refuses, piece-passes, work-short, work-enough}
 use Rattle.diagnostics.specs.Answers.{DiagnosticsWritten}
 
@@ -21,26 +20,26 @@ leaves : {r : Result (List Diagnostic)} {places details : List ℕ} (n : ℕ) �
     → DiagnosticsWritten r places details (refused n) places details
 leaves n e = record { answered = rw e; places = rw e; details = rw e }
 
-module _ (x : Piece) (places details : List ℕ) (work : ℕ) {o : Opened} (opened : PieceOpened x (pieceRefusals x) o) where
+module _ (x : Piece) (places details : List ℕ) (work : ℕ) {n : ℕ} (number : n ≡ firstNumber (pieceRefusals x)) where
   -- the call answers a, and leaves p and d in the outputs
   abbrev Answers : Result ℕ → List ℕ → List ℕ → Type 0
   Answers a p d = DiagnosticsWritten (diagnosticsCall x (length places) (length details) work) places details a p d
 
   -- 1 to 5
-  pub piece-refused : (o .number ≡ 0 → ⊥) → Answers (refused (o .number)) places details
-  piece-refused h = leaves (o .number) (refuses (pieceRefusals x) (opened .number) h _ _)
+  pub piece-refused : (n ≡ 0 → ⊥) → Answers (refused n) places details
+  piece-refused h = leaves n (refuses (pieceRefusals x) number h _ _)
 
-  module _ (z : o .number ≡ 0) where
-    pub work-refused : work < workFor (o .most) → Answers (refused 8) places details
-    work-refused h = leaves 8 (work-short x (pieceRefusals x) (piece-passes x opened z) (o .most) work (opened .most z) _ _ h)
+  module _ (z : n ≡ 0) {m : ℕ} (most : m ≡ mostNotes x) where
+    pub work-refused : work < workFor m → Answers (refused 8) places details
+    work-refused h = leaves 8 (work-short x (pieceRefusals x) (piece-passes x number z) m work most _ _ h)
 
-    module _ (enough : workFor (o .most) ≤ work) {count : ℕ} (all : count ≡ length (diagnostics x)) where
+    module _ (enough : workFor m ≤ work) {count : ℕ} (all : count ≡ length (diagnostics x)) where
       -- none of 1 to 5 applies, and the work area has room
       outputs-left : diagnosticsCall x (length places) (length details) work
           ≡ unless
           (shortOutput (length places) (map placeOf (diagnostics x)) ∷ shortOutput (length details) (map detailOf (diagnostics x)) ∷ [])
           (diagnostics x)
-      outputs-left = work-enough x (pieceRefusals x) (piece-passes x opened z) (o .most) work (opened .most z) _ _ enough
+      outputs-left = work-enough x (pieceRefusals x) (piece-passes x number z) m work most _ _ enough
 
       pub places-refused : length places < count → Answers (refused 8) places details
       unfolding unless

@@ -25,11 +25,11 @@ fn write_diagnostics(
         (length (now (places .entry))) (length (now (details .entry))) (length (now (work .entry))))
         (now (places .entry)) (now (details .entry)) (diagnosticsAnswer r) (now (places .exit)) (now (details .exit)) ⌝ }
 {
-    let opened = opening::open_piece(sizes, deltas, words);
-    if opened.number != 0 {
-        return DiagnosticsAnswer::Refused(opened.number);
+    let number = admission::admission(sizes, deltas, words);
+    if number != 0 {
+        return DiagnosticsAnswer::Refused(number);
     }
-    let n = opened.most;
+    let n = tracks::most_notes(sizes, deltas, words);
     if work.len() < basics::work_for(n) {
         return DiagnosticsAnswer::Refused(8);
     }

@@ -1,37 +1,21 @@
 -- No note of a track ends later than a tick after its last; none ends after the last tick where no note starts there.
 use Prim.Native.Nat.{ℕ, zero, suc, _+_, _-_, _≤_, _<_, max}
-use mathlib.Core.Bool.{false, true≢false, _||_}
+use mathlib.Core.Bool.{false, true≢false}
 use mathlib.Core.List.{List, [], _∷_, foldl}
 use mathlib.Core.Logic.{inl, inr}
-use mathlib.Core.Path.{_≡_, refl, sym, ap, _∙_}
+use mathlib.Core.Path.{_≡_, refl, sym, _∙_}
 use native.Mathlib.Omega.{arith}
-use native.Mathlib.Numerals.{add-one}
 use lib.Dec.{ltb}
 use lib.ListN.{length, getD, drop}
-use lib.Seq.{drop-cons}
 use Rattle.rules.specs.Lists.{any, sum}
 use Rattle.rules.specs.Piece.{timed, isOn, isOff, byteA, byteB}
-use Rattle.rules.specs.RawNotes.{hasNotes}
 use Rattle.laws.proofs.Order.{by-bool}
 use Rattle.track_events.specs.Track.{Track, eventsOf}
+use Rattle.tracks.proofs.Cuts.{any-here}
 use Rattle.ends.specs.declared.Pass.{Pass}
 use Rattle.ends.specs.Pass.{trackEnd, cell, Reached, nothing, step, stepOn, endOf}
 use Rattle.ends.proofs.Passes.{step-off, step-over, step-cases, step-tick, pass-finds}
 use Rattle.ends.proofs.Midway.{timed-formed}
-
--- ---- the words alone tell whether there are notes
-
-pub notes-words : (n t : ℕ) (ds ws : List ℕ) → length ws ≡ length ds → hasNotes (timed n t ds ws) ≡ any isOn ws
-unfolding timed any
-notes-words n t [] [] e = refl
-notes-words n t [] (w ∷ ws) e = absurd (omega arith)
-notes-words n t (d ∷ ds) [] e = absurd (omega arith)
-notes-words n t (d ∷ ds) (w ∷ ws) e = ap (λ b. isOn w || b) (notes-words (suc n) (t + d) ds ws (omega arith))
-
--- one word more, seen from the front
-pub any-here : (ws : List ℕ) (i : ℕ) → i < length ws → any isOn (drop i ws) ≡ (isOn (getD ws i 0) || any isOn (drop (i + 1) ws))
-unfolding any
-any-here ws i h = rw (drop-cons ws i 0 h) (rw add-one)
 
 -- one word back, that is no start
 pub any-back : (ws : List ℕ) (i : ℕ) → 0 < i → i ≤ length ws → isOn (getD ws (i - 1) 0) ≡ false → any isOn (drop i ws) ≡ false

@@ -3,26 +3,35 @@ use Prim.Native.Nat.{ℕ, _<_}
 use mathlib.Core.Bool.{cond, _&&_}
 use mathlib.Core.List.{List, []}
 use mathlib.Core.Logic.{inl, inr}
-use mathlib.Core.Path.{_≡_, refl, ap}
+use mathlib.Core.Path.{_≡_, refl, sym, ap, _∙_}
 use native.Mathlib.Omega.{arith}
 use borrow.Author.Tests.{eq-eqb, ne-eqb}
 use lib.Dec.{eqb}
 use lib.ListN.{length, getD, set, replicate, length-set, getD-replicate}
-use lib.Seq.{getD-set-same, getD-set-other}
+use lib.Seq.{getD-set-same, getD-set-other, ext-getD}
 use Rattle.laws.proofs.Order.{by-eq}
-use Rattle.ends.specs.Pass.{cell, put}
+use Rattle.ends.specs.Pass.{cell, put, noCounts}
 use Rattle.laws.proofs.Places.{of-replicate}
 
 pub record Grid (rows : List (List ℕ)) : Type 0 where
   pub count : length rows ≡ 16
   pub row : (c : ℕ) → c < 16 → length (getD rows c []) ≡ 128
 
-pub zeros : Grid (replicate 16 (replicate 128 0))
+pub zeros : Grid noCounts
 zeros = record { count = refl; row = λ c h. rw (getD-replicate 16 c (replicate {A = ℕ} 128 0) [] h) }
 
-pub zeros-cell : (c k : ℕ) → cell (replicate 16 (replicate 128 0)) c k ≡ 0
+pub zeros-cell : (c k : ℕ) → cell noCounts c k ≡ 0
 zeros-cell c k =
     of-replicate (λ r. getD r k 0 ≡ 0) 16 c (replicate 128 0) [] (of-replicate (λ m. m ≡ 0) 128 k 0 0 refl refl) refl
+
+-- rows in which every cell is zero
+pub all-zero : {rows : List (List ℕ)} → Grid rows → ((c k : ℕ) → c < 16 → k < 128 → cell rows c k ≡ 0) → rows ≡ noCounts
+all-zero {rows} grid h =
+    ext-getD [] rows noCounts (grid .count)
+    (λ c i.
+    let here : c < 16 = omega (arith, grid .count, i) in
+    ext-getD 0 (getD rows c []) (getD noCounts c []) (grid .row c here ∙ sym (zeros .row c here))
+    (λ k j. h c k here (omega (arith, grid .row c here, j)) ∙ sym (zeros-cell c k)))
 
 module _ (rows : List (List ℕ)) (c k v : ℕ) where
   same-row : (c < length rows) → getD (put rows c k v) c [] ≡ set (getD rows c []) k v

@@ -12,9 +12,9 @@ use Rattle.rules.specs.Refusals.{largestDelta}
 use Rattle.laws.proofs.Lists.{All-get}
 use Rattle.track_events.specs.Track.{Track, eventsOf, left}
 use Rattle.track_events.proofs.Tracks.{left-cons, left-none}
-use Rattle.ends.specs.Pass.{trackEnd, cell, put, Reached, nothing, step, stepOn, endOf, Within}
+use Rattle.ends.specs.Pass.{trackEnd, cell, put, noCounts, Reached, nothing, step, stepOn, endOf, Within}
 use Rattle.laws.proofs.Places.{after-set}
-use Rattle.ends.proofs.Passes.{step-cases, step-tick, pass-finds}
+use Rattle.ends.proofs.Passes.{step-cases, step-tick, pass-finds, pass-clears}
 use Rattle.ends.proofs.Grids.{zeros-cell}
 
 -- ---- no count is above the number of events passed
@@ -96,7 +96,13 @@ module _ {ds ws : List ℕ} (track : Track ds ws) where
         within = within-step (m .within) (getD ds i 0) (getD ws i 0) (delta-at i h);
       }
 
-  pub midway-end : {x : Reached} {i : ℕ} → length ds ≤ i → Midway ds ws x i → endOf (x .pass) ≡ trackEnd (eventsOf ds ws)
-  midway-end {x} {i} h m =
-      ap (λ (y : Reached). endOf (y .pass)) (sym (ap (foldl stepOn x) (left-none (x .pass .tick) i ds ws h)) ∙ m .rest)
-      ∙ pass-finds (eventsOf ds ws) (timed-formed 0 0 ds ws (track .formed))
+  module _ {x : Reached} {i : ℕ} (h : length ds ≤ i) (m : Midway ds ws x i) where
+    -- the end: no event is left
+    all-passed : x ≡ foldl stepOn nothing (eventsOf ds ws)
+    all-passed = sym (ap (foldl stepOn x) (left-none (x .pass .tick) i ds ws h)) ∙ m .rest
+
+    pub midway-end : endOf (x .pass) ≡ trackEnd (eventsOf ds ws)
+    midway-end = ap (λ (y : Reached). endOf (y .pass)) all-passed ∙ pass-finds (eventsOf ds ws) (timed-formed 0 0 ds ws (track .formed))
+
+    pub midway-clear : x .pass .started ≤ x .pass .ended → x .counts ≡ noCounts
+    midway-clear = rw all-passed (pass-clears (eventsOf ds ws) (timed-formed 0 0 ds ws (track .formed)))

@@ -11,8 +11,8 @@ use borrow.Author.Tests.{lt-ltb}
 use lib.Dec.{ltb}
 use lib.ListN.{length, getD, take}
 use lib.Seq.{take-nil}
-use Rattle.rules.specs.Lists.{keep, sortBy, largest, isEmpty, All}
-use Rattle.rules.specs.Piece.{Event, piece}
+use Rattle.rules.specs.Lists.{any, keep, sortBy, largest, isEmpty, All}
+use Rattle.rules.specs.Piece.{Event, piece, isOn}
 use Rattle.rules.specs.RawNotes.{NoteEvent, noteEvents, RawNote, rawNote, Pairing, sameKey, takeOff, pairOne, noPairs}
 use Rattle.rules.specs.RawNotes.{byChannel, byStart, rawNotesOf, rawNotes, lastTick, hasNotes, mostParts}
 use Rattle.rules.specs.Bars.{endOfPiece}
@@ -22,8 +22,8 @@ use Rattle.laws.proofs.Lists.{All-all, All-append}
 use Rattle.laws.proofs.Folds.{foldl-keeps}
 use Rattle.laws.proofs.Sort.{All-sort}
 use Rattle.laws.proofs.Notes.{has-notes}
-use Rattle.track_events.specs.Track.{eventsOf, stretch}
-use Rattle.tracks.proofs.Cuts.{Cut, later, cut-start, cut-next, later-cons, later-none}
+use Rattle.track_events.specs.Track.{Track, eventsOf, stretch}
+use Rattle.tracks.proofs.Cuts.{Cut, later, cut-start, cut-next, later-cons, later-none, notes-words}
 use Rattle.ends.specs.declared.Sofar.{Sofar}
 use Rattle.ends.specs.Pass.{trackEnd}
 use Rattle.ends.specs.Sofar.{taken}
@@ -61,9 +61,13 @@ some-end : (ns : List RawNote) → All Ends ns → ltb 0 (largest (map (λ (n : 
 some-end [] h = refl
 some-end (n ∷ ns) h = lt-ltb 0 (max (n .end) (largest (map (λ (n : RawNote). n .end) ns))) (omega (arith, h .0))
 
-pub has-end : (es : List Event) → hasNotes es ≡ ltb 0 (trackEnd es)
+has-end : (es : List Event) → hasNotes es ≡ ltb 0 (trackEnd es)
 unfolding trackEnd
 has-end es = has-notes es ∙ sym (some-end (rawNotes es) (notes-end es))
+
+-- the words alone tell
+pub words-end : {ds ws : List ℕ} → Track ds ws → any isOn ws ≡ ltb 0 (trackEnd (eventsOf ds ws))
+words-end {ds} {ws} track = sym (notes-words ds ws (track .same)) ∙ has-end (eventsOf ds ws)
 
 -- a track that ends no later than those before it, and one without notes
 pub taken-covered : (s : Sofar) (e : ℕ) → ltb 0 e ≡ true → e ≤ s .end → record { parts = s .parts + 1; end = s .end } ≡ taken s e

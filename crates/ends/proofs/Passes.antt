@@ -1,6 +1,6 @@
 -- A pass agrees with the pairing of the same events: the count of a channel and key is the number of its pending starts, and the
 -- largest end is that of the notes closed and of the starts pending, as if each of these ended at its start + 1.
-use Prim.Native.Nat.{ℕ, suc, _+_, _-_, _<_, max}
+use Prim.Native.Nat.{ℕ, suc, _+_, _-_, _≤_, _<_, max}
 use mathlib.Core.Bool.{Bool, true, false, cond, _&&_, _||_, and-eq-true-iff}
 use mathlib.Core.List.{List, [], _∷_, _++_, map, foldl, head?, map-map}
 use mathlib.Core.Logic.{inl, inr}
@@ -18,11 +18,11 @@ use Rattle.rules.specs.RawNotes.{takeOff, takeOn, pairOne, noPairs, byChannel, 
 use Rattle.laws.proofs.Order.{by-bool}
 use Rattle.track_events.proofs.Tracks.{note-bounds}
 use Rattle.ends.specs.declared.Pass.{Pass}
-use Rattle.ends.specs.Pass.{trackEnd, cell, put, Reached, nothing, passOver, begin, close, finish, step, stepOn, endOf}
+use Rattle.ends.specs.Pass.{trackEnd, cell, put, noCounts, Reached, nothing, passOver, begin, close, finish, step, stepOn, endOf}
 use Rattle.laws.proofs.Largest.{largest-map-append, largest-sort, max-moved, max-both, max-last}
 use Rattle.laws.proofs.Tests.{length-keep-last, length-more}
 use Rattle.laws.proofs.Places.{head-none, head-some}
-use Rattle.ends.proofs.Grids.{Grid, zeros, zeros-cell, put-cell, put-grid}
+use Rattle.ends.proofs.Grids.{Grid, zeros, zeros-cell, all-zero, put-cell, put-grid}
 
 -- whether a start is of channel c and key k
 abbrev at : ℕ → ℕ → NoteEvent → Bool
@@ -241,3 +241,21 @@ pass-finds es h =
     pass-end (x .pass) (p .pending) (largest (map endsAt (p .closed))) (a .started) (a .end)
     ∙ rw (last-tick es nothing)
     (sym (largest-sort endsAt byStart _ ∙ largest-map-append endsAt (p .closed) _ ∙ ap (max _) (rw map-map (largest-sort _ byChannel (p .pending)))))
+
+-- ---- the counts after a track
+
+-- as many ended as started
+none-pending : (ss : List NoteEvent) (n m : ℕ) → n ≡ m + length ss → n ≤ m → ss ≡ []
+none-pending [] n m e h = refl
+none-pending (s ∷ ss) n m e h = absurd (omega arith)
+
+-- Where every start has ended the counts are all zero, as they were before the track.
+pub pass-clears : (es : List Event) → All (λ (e : Event). wellFormed (e .word) ≡ true) es
+    → foldl stepOn nothing es .pass .started ≤ foldl stepOn nothing es .pass .ended → foldl stepOn nothing es .counts ≡ noCounts
+unfolding keep
+pass-clears es h k =
+    let x = foldl stepOn nothing es in
+    let p = foldl pairOne noPairs (noteEvents es) in
+    let a = agrees-all es noPairs nothing h agrees-first in
+    let e : p .pending ≡ [] = none-pending (p .pending) (x .pass .started) (x .pass .ended) (a .started) k in
+    all-zero (a .grid) (λ c k i j. a .counts c k i j ∙ rw e)

@@ -21,6 +21,10 @@ cell rows c k = getD (getD rows c []) k 0
 abbrev pub put : List (List ℕ) → ℕ → ℕ → ℕ → List (List ℕ)
 put rows c k v = set rows c (set (getD rows c []) k v)
 
+-- all zero: no start is pending
+abbrev pub noCounts : List (List ℕ)
+noCounts = replicate 16 (replicate 128 0)
+
 -- ---- the pass
 -- The pass between two events: the starts pending for each channel and key, and its numbers.
 pub record Reached : Type 0 where
@@ -31,7 +35,7 @@ abbrev pub reached : List (List ℕ) → Pass → Reached
 reached rows p = record { counts = rows; pass = p }
 
 unfoldable pub nothing : Reached
-nothing = reached (replicate 16 (replicate 128 0)) (record { tick = 0; started = 0; ended = 0; end = 0 })
+nothing = reached noCounts (record { tick = 0; started = 0; ended = 0; end = 0 })
 
 -- an event at tick t that is no on and ends no start
 abbrev pub passOver : Reached → ℕ → Reached

@@ -4,17 +4,18 @@ use basics::MOST_PARTS;
 use basics::larger;
 use basics::size;
 use track_events::cut;
+use tracks::has_notes;
 ghost use Prim.Native.Nat.{_+_, _*_, _≤_, _<_};
 ghost use mathlib.Core.Bool.{true};
 ghost use mathlib.Core.Path.{_≡_};
 ghost use Rattle.rules.specs.Piece.{piece, wellFormed};
 ghost use Rattle.rules.specs.Lists.{sum};
-ghost use Rattle.rules.specs.RawNotes.{mostParts, hasNotes};
+ghost use Rattle.rules.specs.RawNotes.{mostParts};
 ghost use Rattle.rules.specs.Bars.{endOfPiece};
 ghost use Rattle.rules.specs.Refusals.{mostEvents, largestDelta};
 ghost use Rattle.laws.specs.Admitted.{Admitted};
 ghost use Rattle.track_events.specs.Track.{Track, eventsOf};
-ghost use Rattle.ends.specs.Pass.{trackEnd, reached, begin, finish, step, endOf, Within};
+ghost use Rattle.ends.specs.Pass.{trackEnd, reached, noCounts, begin, finish, step, endOf, Within};
 ghost use Rattle.ends.specs.Sofar.{taken};
 
 // A pass over a track's events: the tick reached, the starts so far, how many of them an off has ended, and the largest end.
@@ -81,23 +82,32 @@ fn step(counts: &mut [[u32; 128]; 16], p: Pass, delta: u32, word: u32) -> Pass
     }
 }
 
-// Starts still pending end at the last tick.
-fn end_of(p: Pass) -> u64
-    ensures { λ r. ⌜ r ≡ endOf p ⌝ }
+// All counts zero, as a track wants them.
+fn clear(counts: &mut [[u32; 128]; 16])
+    ensures { λ _. ⌜ now (counts .exit) ≡ noCounts ⌝ }
 {
-    if p.ended < p.started {
-        larger(p.end, p.tick)
-    } else {
-        p.end
-    }
+    *counts = [[0u32; 128]; 16];
 }
 
-// The largest end of a track's raw notes, 0 where it has none.
-pub fn end_of_track(deltas: &[u32], words: &[u32]) -> u64
-    requires { ⌜ Track (now deltas) (now words) ⌝ }
-    ensures { λ r. ⌜ r ≡ trackEnd (eventsOf (now (deltas .entry)) (now (words .entry))) ⌝ }
+// Starts still pending end at the last tick. Only they leave counts above zero.
+fn end_of(counts: &mut [[u32; 128]; 16], p: Pass) -> u64
+    requires { ⌜ (p .started ≤ p .ended → now counts ≡ noCounts) ⌝ }
+    ensures end { λ r. ⌜ r ≡ endOf p ⌝ }
+    ensures cleared { λ _. ⌜ now (counts .exit) ≡ noCounts ⌝ }
 {
-    let mut counts = [[0u32; 128]; 16];
+    if p.ended < p.started {
+        clear(counts);
+        return larger(p.end, p.tick);
+    }
+    p.end
+}
+
+// The largest end of a track's raw notes, 0 where it has none. The counts come all zero, and are so again afterwards.
+fn end_of_track(counts: &mut [[u32; 128]; 16], deltas: &[u32], words: &[u32]) -> u64
+    requires { ⌜ (now counts ≡ noCounts) × Track (now deltas) (now words) ⌝ }
+    ensures end { λ r. ⌜ r ≡ trackEnd (eventsOf (now (deltas .entry)) (now (words .entry))) ⌝ }
+    ensures cleared { λ _. ⌜ now (counts .exit) ≡ noCounts ⌝ }
+{
     let mut p = Pass {
         tick: 0,
         started: 0,
@@ -106,10 +116,10 @@ pub fn end_of_track(deltas: &[u32], words: &[u32]) -> u64
     };
     let mut i = 0;
     while i < deltas.len() {
-        p = step(&mut counts, p, deltas[i], words[i]);
+        p = step(counts, p, deltas[i], words[i]);
         i += 1;
     }
-    end_of(p)
+    end_of(counts, p)
 }
 
 // The parts so far, and the largest end of their notes.
@@ -165,28 +175,14 @@ fn covered(deltas: &[u32], words: &[u32], end: u64) -> bool
     false
 }
 
-// Whether a track has notes.
-fn has_notes(deltas: &[u32], words: &[u32]) -> bool
-    requires { ⌜ Track (now deltas) (now words) ⌝ }
-    ensures { λ r. ⌜ r ≡ hasNotes (eventsOf (now (deltas .entry)) (now (words .entry))) ⌝ }
-{
-    let mut i = 0;
-    while i < words.len() {
-        if track_events::is_on(words[i]) {
-            return true;
-        }
-        i += 1;
-    }
-    false
-}
-
 // One track more: gone through only where a note of it may end later than all before.
-fn with_track(s: Sofar, deltas: &[u32], words: &[u32]) -> Sofar
-    requires { ⌜ (s .parts < mostParts) × Track (now deltas) (now words) ⌝ }
-    ensures { λ r. ⌜ r ≡ taken s (trackEnd (eventsOf (now (deltas .entry)) (now (words .entry)))) ⌝ }
+fn with_track(counts: &mut [[u32; 128]; 16], s: Sofar, deltas: &[u32], words: &[u32]) -> Sofar
+    requires { ⌜ (now counts ≡ noCounts) × (s .parts < mostParts) × Track (now deltas) (now words) ⌝ }
+    ensures taken { λ r. ⌜ r ≡ taken s (trackEnd (eventsOf (now (deltas .entry)) (now (words .entry)))) ⌝ }
+    ensures cleared { λ _. ⌜ now (counts .exit) ≡ noCounts ⌝ }
 {
     if covered(deltas, words, s.end) {
-        if has_notes(deltas, words) {
+        if has_notes(words) {
             return Sofar {
                 parts: s.parts + 1,
                 end: s.end,
@@ -194,14 +190,15 @@ fn with_track(s: Sofar, deltas: &[u32], words: &[u32]) -> Sofar
         }
         return s;
     }
-    taken(s, end_of_track(deltas, words))
+    taken(s, end_of_track(counts, deltas, words))
 }
 
-// The largest raw end of all parts, the first 32 tracks that have notes.
+// The largest raw end of all parts, the first 32 tracks that have notes. One array of counts serves every track.
 pub fn end_of_piece(sizes: &[u32], deltas: &[u32], words: &[u32]) -> u64
     requires { ⌜ Admitted (piece (now sizes) (now deltas) (now words)) ⌝ }
     ensures { λ r. ⌜ r ≡ endOfPiece (piece (now (sizes .entry)) (now (deltas .entry)) (now (words .entry))) ⌝ }
 {
+    let mut counts = [[0u32; 128]; 16];
     let mut s = Sofar { parts: 0, end: 0 };
     let mut from = 0;
     let mut i = 2;
@@ -210,7 +207,7 @@ pub fn end_of_piece(sizes: &[u32], deltas: &[u32], words: &[u32]) -> u64
             return s.end;
         }
         let to = from + size(sizes[i]);
-        s = with_track(s, cut(deltas, from, to), cut(words, from, to));
+        s = with_track(&mut counts, s, cut(deltas, from, to), cut(words, from, to));
         from = to;
         i += 1;
     }

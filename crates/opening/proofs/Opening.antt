@@ -23,7 +23,7 @@ use Rattle.tracks.proofs.Cuts.{span-track}
 use Rattle.tracks.proofs.Ranges.{ons, parts-most, most-few}
 use Rattle.opening.specs.declared.Opened.{Opened}
 use Rattle.opening.specs.declared.OpenedPart.{OpenedPart}
-use Rattle.opening.specs.Opening.{PieceOpened, PartOpened}
+use Rattle.opening.specs.Opening.{NotesOpened, PartOpened}
 
 -- ---- any list of refusals
 
@@ -65,23 +65,15 @@ note-numbers x = All-append _ (pieceRefusals x) _ (piece-numbers x) (omega arith
 part-numbers : (x : Piece) (k : ℕ) → Numbered (partRefusals x k)
 part-numbers x k = All-append _ (noteRefusals x) _ (note-numbers x) (omega arith, tt)
 
-module _ (x : Piece) {r : Opened} where
-  module _ (opened : PieceOpened x (pieceRefusals x) r) (z : r .number ≡ 0) where
-    pub piece-passes : Passes (pieceRefusals x)
-    piece-passes = number-passes (pieceRefusals x) (piece-numbers x) (sym (opened .number) ∙ z)
+module _ (x : Piece) {r : Opened} (opened : NotesOpened x r) (z : r .number ≡ 0) where
+  pub notes-pass : Passes (noteRefusals x)
+  notes-pass = number-passes (noteRefusals x) (note-numbers x) (sym (opened .number) ∙ z)
 
-    pub piece-admitted : Admitted x
-    piece-admitted = admitted x piece-passes
+  pub notes-admitted : Admitted x
+  notes-admitted = admitted x (All-left _ (pieceRefusals x) _ notes-pass)
 
-  module _ (opened : PieceOpened x (noteRefusals x) r) (z : r .number ≡ 0) where
-    pub notes-pass : Passes (noteRefusals x)
-    notes-pass = number-passes (noteRefusals x) (note-numbers x) (sym (opened .number) ∙ z)
-
-    pub notes-admitted : Admitted x
-    notes-admitted = admitted x (All-left _ (pieceRefusals x) _ notes-pass)
-
-    pub few-parts : r .parts ≤ mostParts
-    few-parts = omega (arith, opened .parts z, length-take mostParts (keep hasNotes (tracks x)))
+  pub few-parts : r .parts ≤ mostParts
+  few-parts = omega (arith, opened .parts z, length-take mostParts (keep hasNotes (tracks x)))
 
 -- ---- none of a part's
 
@@ -99,49 +91,48 @@ module _ (x : Piece) (k : ℕ) {r : OpenedPart} (opened : PartOpened x k r) (z :
   own-track = span-track x part-admitted (opened .own z)
 
   -- the part's track has at most N notes
-  pub few-ons : ons (eventsOf (stretch (r .from) (r .to) (x .deltas)) (stretch (r .from) (r .to) (x .words))) ≤ r .most
-  few-ons =
-      rw (opened .own z .events, opened .most z) (All-get (λ es. ons es ≤ mostNotes x) (parts x) k [] (parts-most x) is-part)
+  pub few-ons : {n : ℕ} → n ≡ mostNotes x
+      → ons (eventsOf (stretch (r .from) (r .to) (x .deltas)) (stretch (r .from) (r .to) (x .words))) ≤ n
+  few-ons most = rw (opened .own z .events, most) (All-get (λ es. ons es ≤ mostNotes x) (parts x) k [] (parts-most x) is-part)
 
 -- ---- one number after another
 
--- a piece that is refused stays so, whatever else is asked
-pub still-refused : {x : Piece} (rs ss : List Refusal) {r : Opened} → PieceOpened x rs r → (r .number ≡ 0 → ⊥) → PieceOpened x (rs ++ ss) r
-still-refused rs ss opened h =
-    record {
-      number = sym (number-first rs ss _ (sym (opened .number)) (pos-of-ne-zero h));
-      parts = λ z. absurd (h z);
-      most = λ z. absurd (h z);
-    }
-
-module _ (x : Piece) {r : Opened} (opened : PieceOpened x (pieceRefusals x) r) (z : r .number ≡ 0) where
-  sixth : firstNumber (noteRefusals x) ≡ firstNumber (refuse 6 (isEmpty (parts x)) ∷ [])
-  sixth = number-after (pieceRefusals x) _ (piece-passes x opened z)
-
-  pub no-notes : r .parts ≡ 0 → PieceOpened x (noteRefusals x) (record { number = 6; parts = 0; most = 0 })
-  unfolding firstNumber
-  no-notes h =
+module _ (x : Piece) {n : ℕ} (e : n ≡ firstNumber (pieceRefusals x)) where
+  pub refused-notes : (n ≡ 0 → ⊥) → NotesOpened x (record { number = n; parts = 0 })
+  refused-notes h =
       record {
-        number = sym (sixth ∙ rw (none-empty (parts x) (sym (opened .parts z) ∙ h)));
-        parts = λ e. absurd (omega arith);
-        most = λ e. absurd (omega arith);
+        number = sym (number-first (pieceRefusals x) _ _ (sym e) (pos-of-ne-zero h));
+        parts = λ z. absurd (h z);
       }
 
-  pub with-notes : (r .parts ≡ 0 → ⊥) → PieceOpened x (noteRefusals x) r
-  unfolding firstNumber
-  with-notes h =
-      record {
-        number = z ∙ sym (sixth ∙ rw (some-left (parts x) (λ e. h (opened .parts z ∙ e))));
-        parts = opened .parts;
-        most = opened .most;
-      }
+  module _ (z : n ≡ 0) where
+    pub piece-passes : Passes (pieceRefusals x)
+    piece-passes = number-passes (pieceRefusals x) (piece-numbers x) (sym e ∙ z)
 
-module _ (x : Piece) (k : ℕ) {r : Opened} (opened : PieceOpened x (noteRefusals x) r) where
-  pub refused-part : (r .number ≡ 0 → ⊥) → PartOpened x k (record { number = r .number; most = 0; from = 0; to = 0 })
+    pub piece-admitted : Admitted x
+    piece-admitted = admitted x piece-passes
+
+    sixth : firstNumber (noteRefusals x) ≡ firstNumber (refuse 6 (isEmpty (parts x)) ∷ [])
+    sixth = number-after (pieceRefusals x) _ piece-passes
+
+    module _ {m : ℕ} (count : m ≡ length (parts x)) where
+      pub no-notes : m ≡ 0 → NotesOpened x (record { number = 6; parts = 0 })
+      unfolding firstNumber
+      no-notes h =
+          record {
+            number = sym (sixth ∙ rw (none-empty (parts x) (sym count ∙ h)));
+            parts = λ f. absurd (omega arith);
+          }
+
+      pub with-notes : (m ≡ 0 → ⊥) → NotesOpened x (record { number = 0; parts = m })
+      unfolding firstNumber
+      with-notes h = record { number = sym (sixth ∙ rw (some-left (parts x) (λ f. h (count ∙ f)))); parts = λ f. count }
+
+module _ (x : Piece) (k : ℕ) {r : Opened} (opened : NotesOpened x r) where
+  pub refused-part : (r .number ≡ 0 → ⊥) → PartOpened x k (record { number = r .number; from = 0; to = 0 })
   refused-part h =
       record {
         number = sym (number-first (noteRefusals x) _ _ (sym (opened .number)) (pos-of-ne-zero h));
-        most = λ z. absurd (h z);
         own = λ z. absurd (h z);
       }
 
@@ -149,12 +140,11 @@ module _ (x : Piece) (k : ℕ) {r : Opened} (opened : PieceOpened x (noteRefusal
     seventh : firstNumber (partRefusals x k) ≡ firstNumber (refuse 7 (leb (length (parts x)) k) ∷ [])
     seventh = number-after (noteRefusals x) _ (notes-pass x opened z)
 
-    pub no-part : r .parts ≤ k → PartOpened x k (record { number = 7; most = 0; from = 0; to = 0 })
+    pub no-part : r .parts ≤ k → PartOpened x k (record { number = 7; from = 0; to = 0 })
     unfolding firstNumber
     no-part h =
         record {
           number = sym (seventh ∙ rw (le-leb (length (parts x)) k (omega (arith, opened .parts z))));
-          most = λ e. absurd (omega arith);
           own = λ e. absurd (omega arith);
         }
 
@@ -162,11 +152,6 @@ module _ (x : Piece) (k : ℕ) {r : Opened} (opened : PieceOpened x (noteRefusal
     there h = omega (arith, opened .parts z)
 
     pub with-part : (s : Span) → k < r .parts → IsSpan (x .deltas) (x .words) (partTrack x k) s
-        → PartOpened x k (record { number = 0; most = r .most; from = s .from; to = s .to })
+        → PartOpened x k (record { number = 0; from = s .from; to = s .to })
     unfolding firstNumber
-    with-part s h own =
-        record {
-          number = sym (seventh ∙ rw (lt-leb (length (parts x)) k (there h)));
-          most = λ e. opened .most z;
-          own = λ e. own;
-        }
+    with-part s h own = record { number = sym (seventh ∙ rw (lt-leb (length (parts x)) k (there h))); own = λ e. own }

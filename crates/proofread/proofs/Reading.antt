@@ -7,7 +7,7 @@ use lib.ListN.{length}
 use Rattle.rules.specs.Piece.{Piece, Event, ticksPerQuarter}
 use Rattle.rules.specs.Bars.{bars, barsIn, mostBars}
 use Rattle.rules.specs.Grid.{grid}
-use Rattle.rules.specs.RawNotes.{rawNotes}
+use Rattle.rules.specs.RawNotes.{rawNotes, mostNotes}
 use Rattle.rules.specs.Items.{StaffArrays}
 use Rattle.rules.specs.Refusals.{Result, partRefusals, workFor}
 use Rattle.rules.specs.Calls.{partNotes, proofReadCall}
@@ -24,7 +24,8 @@ use Rattle.proofread_notes.specs.Columns.{Readable}
 use Rattle.proofread_staff.specs.Staffs.{rawsAt, answerOn}
 use Rattle.proofread.proofs.Collected.{raws-are, notes-readable}
 
-module _ (x : Piece) (k : ℕ) {r : OpenedPart} (opened : PartOpened x k r) (z : r .number ≡ 0) {b : BarSource} (source : IsBarSource x b) where
+module _ (x : Piece) (k : ℕ) {r : OpenedPart} (opened : PartOpened x k r) (z : r .number ≡ 0) {b : BarSource} (source : IsBarSource x b)
+    {n : ℕ} (most : n ≡ mostNotes x) where
   -- the part's own events, and those that the bars go by
   abbrev owns : List Event
   owns = eventsOf (stretch (r .from) (r .to) (x .deltas)) (stretch (r .from) (r .to) (x .words))
@@ -33,21 +34,21 @@ module _ (x : Piece) (k : ℕ) {r : OpenedPart} (opened : PartOpened x k r) (z :
   firsts = eventsOf (stretch (b .from) (b .to) (x .deltas)) (stretch (b .from) (b .to) (x .words))
 
   -- the m notes of the work area w are the part's, and g is their grid
-  module _ {g m : ℕ} {w : List ℕ} (noted : Noted owns (r .most) m w) (grids : g ≡ grid (b .p) (rawsAt (r .most) m w)) where
-    pub readable : 16 * r .most ≤ length w → Readable g (r .most) m w
+  module _ {g m : ℕ} {w : List ℕ} (noted : Noted owns n m w) (grids : g ≡ grid (b .p) (rawsAt n m w)) where
+    pub readable : 16 * n ≤ length w → Readable g n m w
     readable area = notes-readable noted (track-notes (own-track x k opened z)) (b .p) (small x (part-admitted x k opened z) source) area grids
 
-    notes : rawsAt (r .most) m w ≡ rawNotes owns
+    notes : rawsAt n m w ≡ rawNotes owns
     notes = raws-are noted (track-notes (own-track x k opened z))
 
-    pub reading-given : (s : StaffArrays) (work : ℕ) {a : Result Bool} → workFor (r .most) ≤ work
-        → a ≡ answerOn (b .p) g (rawsAt (r .most) m w) (barsIn mostBars (b .p) firsts (b .end)) s
+    pub reading-given : (s : StaffArrays) (work : ℕ) {a : Result Bool} → workFor n ≤ work
+        → a ≡ answerOn (b .p) g (rawsAt n m w) (barsIn mostBars (b .p) firsts (b .end)) s
         → a ≡ proofReadCall x k s work
     reading-given s work enough answer =
         answer ∙ on-their-grid ∙ same
-        ∙ sym (work-enough x (partRefusals x k) (part-passes x k opened z) (r .most) work (opened .most z) _ _ enough)
+        ∙ sym (work-enough x (partRefusals x k) (part-passes x k opened z) n work most _ _ enough)
       where
-        on-their-grid : answerOn (b .p) g (rawsAt (r .most) m w) (barsIn mostBars (b .p) firsts (b .end)) s
+        on-their-grid : answerOn (b .p) g (rawsAt n m w) (barsIn mostBars (b .p) firsts (b .end)) s
             ≡ answerOn (b .p) (grid (b .p) (rawNotes owns)) (rawNotes owns) (barsIn mostBars (b .p) firsts (b .end)) s
         on-their-grid i =
             answerOn (b .p) ((grids ∙ ap (grid (b .p)) notes) i) (notes i) (barsIn mostBars (b .p) firsts (b .end)) s

@@ -48,7 +48,7 @@ pub fn proof_read(
         basics::clear(work);
         return ReadAnswer::Refused(opened.number);
     }
-    let n = opened.most;
+    let n = tracks::most_notes(sizes, deltas, words);
     if work.len() < basics::work_for(n) {
         basics::clear(work);
         return ReadAnswer::Refused(8);

@@ -54,6 +54,10 @@ barVoices p n w lens b e = upTo (barVoice p n w lens b e) 4
 abbrev pub AllPast : ℕ → List ℕ → List ℕ → ℕ → List ℕ → Type 0
 AllPast n w lens t nexts = (v : ℕ) → v < 4 → Past t (voiceOf n w v (getD lens v 0)) (getD nexts v 0)
 
+-- a staff so far, of its parts
+abbrev pub engraving : ℕ → ℕ → List ℕ → Engraving
+engraving bars items nexts = record { bars = bars; items = items; nexts = nexts }
+
 -- a bar can be written behind s
 pub record CanPush (write : Bool) (p n : ℕ) (w lens : List ℕ) (bar : Measure) (s : Engraving) (counts heads keys : List ℕ) : Type 0 where
   pub some-bar : bar .start < bar .end

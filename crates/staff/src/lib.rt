@@ -10,7 +10,7 @@ ghost use Rattle.bar_walk.specs.Walk.{CanWalk};
 ghost use Rattle.items.specs.Putting.{Put};
 ghost use Rattle.items.specs.Writing.{quarter, IsTable};
 ghost use Rattle.bar_voice.specs.Voices.{voiceOf, VoiceHeld};
-ghost use Rattle.staff.specs.Bars.{CanCount, Counted, voicesOf, VoicesHeld, CanPush, BarPut};
+ghost use Rattle.staff.specs.Bars.{CanCount, Counted, voicesOf, VoicesHeld, engraving, CanPush, BarPut};
 ghost use Rattle.staff.specs.Staffs.{barsOf, StaffRoom, StaffPut};
 use items::Measure;
 
@@ -78,7 +78,8 @@ fn push_counted(
     Reached { at, next: first }
 }
 
-// The bar's four voices: their items, and a count for each.
+// The bar's four voices: their items, and a count for each. The answer is the place behind the items; the next chords are
+// written in place, since a copy right after a store is slow.
 fn push_bar(
     write: bool,
     values: &[u64; 18],
@@ -86,21 +87,23 @@ fn push_bar(
     n: usize,
     lens: [usize; 4],
     bar: Measure,
-    s: Engraving,
+    bars: usize,
+    items: usize,
+    nexts: &mut [usize; 4],
     counts: &mut [u32],
     heads: &mut [u32],
     keys: &mut [u64],
-) -> Engraving
+) -> usize
     requires { ⌜ IsTable (now values) × VoicesHeld n (now work) lens
-        × CanPush write (quarter (now values)) n (now work) lens bar s (now counts) (now heads) (now keys) ⌝ }
-    ensures { λ r. ⌜ BarPut write (quarter (now (values .entry))) n (now (work .entry)) lens bar s
-        (now (counts .entry)) (now (heads .entry)) (now (keys .entry)) (now (counts .exit)) (now (heads .exit)) (now (keys .exit)) r ⌝ }
+        × CanPush write (quarter (now values)) n (now work) lens bar (engraving bars items (now nexts)) (now counts) (now heads) (now keys) ⌝ }
+    ensures { λ r. ⌜ BarPut write (quarter (now (values .entry))) n (now (work .entry)) lens bar (engraving bars items (now (nexts .entry)))
+        (now (counts .entry)) (now (heads .entry)) (now (keys .entry)) (now (counts .exit)) (now (heads .exit)) (now (keys .exit))
+        (engraving (bars + 1) r (now (nexts .exit))) ⌝ }
 {
-    let mut nexts = s.nexts;
-    let mut at = s.items;
+    let mut at = items;
     let mut v = 0;
     while v < 4 {
-        let place = 4 * s.bars + v;
+        let place = 4 * bars + v;
         let r = push_counted(
             write,
             values,
@@ -120,11 +123,7 @@ fn push_bar(
         at = r.at;
         v += 1;
     }
-    Engraving {
-        bars: s.bars + 1,
-        items: at,
-        nexts,
-    }
+    at
 }
 
 // ---- the staff
@@ -153,22 +152,34 @@ pub fn transcribe_track(
         (now (counts .entry)) (now (heads .entry)) (now (keys .entry)) (now (counts .exit)) (now (heads .exit)) (now (keys .exit)) r ⌝ }
 {
     let mut w = bar_walk::first_bar(values[9], deltas, words);
-    let mut s = Engraving {
-        bars: 0,
-        items: 0,
-        nexts: [0; 4],
-    };
-    while s.bars < max_bars {
+    let mut bars = 0;
+    let mut items = 0;
+    let mut nexts = [0usize; 4];
+    while bars < max_bars {
         let bar = Measure {
             start: w.start,
             end: w.start + w.length(),
         };
-        s = push_bar(write, values, work, n, lens, bar, s, counts, heads, keys);
+        items = push_bar(
+            write,
+            values,
+            work,
+            n,
+            lens,
+            bar,
+            bars,
+            items,
+            &mut nexts,
+            counts,
+            heads,
+            keys,
+        );
+        bars += 1;
         w = w.next_bar();
         if end <= w.start {
-            return s;
+            return Engraving { bars, items, nexts };
         }
         w = w.take_changes(deltas, words);
     }
-    s
+    Engraving { bars, items, nexts }
 }

@@ -9,7 +9,7 @@ use Rattle.rules.specs.Bars.{Bar, bars, mostBars}
 use Rattle.rules.specs.Calls.{StaffSize, partSize, partArrays, staffSizeCall, engraveCall, EngraveCalled}
 use Rattle.rules.specs.Items.{StaffArrays, arraysOf}
 use Rattle.rules.specs.Piece.{Piece, ticksPerQuarter}
-use Rattle.rules.specs.RawNotes.{rawNotes}
+use Rattle.rules.specs.RawNotes.{rawNotes, mostNotes}
 use Rattle.rules.specs.Refusals.{Result, Refusal, refused, given, unless, asItIs, partRefusals, workFor, shortWork}
 use Rattle.rules.specs.Staff.{staffOf}
 use Rattle.rules.specs.Voices.{Chord}
@@ -41,46 +41,46 @@ module _ (x : Piece) (k : ℕ) {e : OpenedPart} (opened : PartOpened x k e) wher
         ready = λ z. absurd (h (sym same ∙ z));
       }
 
-  module _ (z : e .number ≡ 0) where
+  module _ (z : e .number ≡ 0) {n : ℕ} (most : n ≡ mostNotes x) where
     -- and 8
-    pub no-work : {room : ℕ} {w : List ℕ} {r : PartVoices} → room < workFor (e .most) → r .number ≡ 8 → PartVoiced x k room w r
+    pub no-work : {room : ℕ} {w : List ℕ} {r : PartVoices} → room < workFor n → r .number ≡ 8 → PartVoiced x k room w r
     no-work {room} h same =
         let passed = part-passes x k opened z in
         record {
-          no-size = λ n. work-short x (partRefusals x k) passed (e .most) room (opened .most z) _ _ h ∙ ap refused (sym same);
+          no-size = λ _. work-short x (partRefusals x k) passed n room most _ _ h ∙ ap refused (sym same);
           no-staff =
-              λ n counts heads keys.
-              work-short x (partRefusals x k) passed (e .most) room (opened .most z) _ _ h ∙ ap refused (sym same);
-          ready = λ n. absurd (omega (arith, n, same));
+              λ _ counts heads keys.
+              work-short x (partRefusals x k) passed n room most _ _ h ∙ ap refused (sym same);
+          ready = λ i. absurd (omega (arith, i, same));
         }
 
     -- the part's own track, cut out
     module _ {ds ws : List ℕ} {p room : ℕ} (d : ds ≡ stretch (e .from) (e .to) (x .deltas)) (v : ws ≡ stretch (e .from) (e .to) (x .words))
-        (q : p ≡ ticksPerQuarter x) (enough : workFor (e .most) ≤ room) where
+        (q : p ≡ ticksPerQuarter x) (enough : workFor n ≤ room) where
       -- what `track_voices` asks
-      pub tracked : {l : List ℕ} → length l ≡ room → HasTrack ds ws p l (e .most)
+      pub tracked : {l : List ℕ} → length l ≡ room → HasTrack ds ws p l n
       tracked same =
           let known = part-admitted x k opened z in
           record {
             track = rw (d, v) (own-track x k opened z);
-            ons = rw (d, v) (few-ons x k opened z);
+            ons = rw (d, v) (few-ons x k opened z most);
             area = omega (arith, enough, same);
             positive = omega (arith, q, ticks-per-quarter-positive x known);
             small = omega (arith, q, quarter-fits x known);
           }
 
-      pub voiced : {w : List ℕ} {r : PartVoices} → r .most ≡ e .most → r .number ≡ 0
+      pub voiced : {w : List ℕ} {r : PartVoices} → r .most ≡ n → r .number ≡ 0
           → TrackVoices p (rawNotes (eventsOf ds ws)) (r .most) (r .lens) w → PartVoiced x k room w r
-      voiced same n voices =
+      voiced same i voices =
           record {
-            no-size = λ h. absurd (h n);
-            no-staff = λ h. absurd (h n);
+            no-size = λ h. absurd (h i);
+            no-staff = λ h. absurd (h i);
             ready =
                 λ _.
                 record {
                   known = part-admitted x k opened z;
                   passes = part-passes x k opened z;
-                  most = same ∙ opened .most z;
+                  most = same ∙ most;
                   enough = omega (arith, enough, same);
                   voices = rw (q, d, v, opened .own z .events) at voices;
                 };

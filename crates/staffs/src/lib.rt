@@ -52,7 +52,7 @@ fn part_voices(
             lens: [0; 4],
         };
     }
-    let most = opened.most;
+    let most = tracks::most_notes(sizes, deltas, words);
     if work.len() < basics::work_for(most) {
         return PartVoices {
             number: 8,

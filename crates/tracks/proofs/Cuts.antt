@@ -1,17 +1,16 @@
--- The arrays cut into tracks: what is left of them at a track, its note-ons, a survey, the search for a part, and the tracks that spans give.
+-- The arrays cut into tracks: what is left of them at a track, its note-ons, how many parts there are, the most note-ons, the search for a part, and the tracks that spans give.
 use Prim.Native.Nat.{ℕ, suc, _+_, _-_, _≤_, _<_, min, max}
-use mathlib.Core.Bool.{true, cond}
+use mathlib.Core.Bool.{Bool, true, false, cond, _||_}
 use mathlib.Core.List.{List, [], _∷_, map}
 use mathlib.Core.Logic.{inl, inr}
 use mathlib.Core.Path.{_≡_, refl, sym, ap, _∙_}
 use native.Mathlib.Nat.{zero-add}
 use native.Mathlib.Numerals.{add-one}
 use native.Mathlib.Omega.{arith}
-use borrow.Author.Tests.{lt-ltb}
 use lib.Dec.{ltb}
 use lib.ListN.{length, getD, drop, length-take, drop-of-length-le}
 use lib.Seq.{drop-cons, drop-drop, getD-take}
-use Rattle.rules.specs.Lists.{keep, sum, largest, flag}
+use Rattle.rules.specs.Lists.{any, keep, sum, largest, flag}
 use Rattle.rules.specs.Piece.{Piece, Event, piece, timed, cutTracks, tracks, sizesAgree, isOn}
 use Rattle.rules.specs.RawNotes.{hasNotes, parts, mostParts, mostNotes}
 use Rattle.laws.specs.Admitted.{Admitted}
@@ -20,9 +19,9 @@ use Rattle.track_events.specs.Track.{Track, eventsOf, stretch}
 use Rattle.track_events.proofs.Tracks.{length-stretch, track-part}
 use Rattle.laws.proofs.Loops.{any-count, sum-left}
 use Rattle.laws.proofs.Order.{by-bool}
+use Rattle.laws.proofs.Tests.{keep-few}
 use Rattle.tracks.specs.declared.Span.{Span}
-use Rattle.tracks.specs.declared.Counts.{Counts}
-use Rattle.tracks.specs.Spans.{IsSpan, FirstSpan, IsSurvey, OneMore}
+use Rattle.tracks.specs.Spans.{IsSpan, FirstSpan}
 
 -- size i is the event count of the next track, which starts at event `from`
 pub record Cut (s ds ws : List ℕ) (i from : ℕ) : Type 0 where
@@ -66,7 +65,7 @@ pub later-none : (s ds ws : List ℕ) (i from : ℕ) → length s ≤ i → late
 unfolding cutTracks
 later-none s ds ws i from h = rw (drop-of-length-le s h)
 
--- ---- note-ons, counted over the words of a track
+-- ---- note-ons, over the words of a track
 abbrev noteCount : List Event → ℕ
 noteCount es = length (keep (λ (e : Event). isOn (e .word)) es)
 
@@ -78,72 +77,110 @@ timed-count n t (d ∷ ds) [] h = absurd (omega arith)
 timed-count n t (d ∷ ds) (w ∷ ws) h =
     let more = timed-count (suc n) (t + d) ds ws (omega arith) in elim (by-bool (isOn w)) [ inl e ↦ rw e (ap suc more) | inr e ↦ rw e more ]
 
+-- the words alone tell whether there are notes
+pub notes-words : (ds ws : List ℕ) → length ws ≡ length ds → hasNotes (eventsOf ds ws) ≡ any isOn ws
+notes-words ds ws h =
+    any-count (λ (e : Event). isOn (e .word)) (eventsOf ds ws) ∙ ap (ltb 0) (timed-count 0 0 ds ws h) ∙ sym (any-count isOn ws)
+
+-- one word more, seen from the front
+pub any-here : (ws : List ℕ) (i : ℕ) → i < length ws → any isOn (drop i ws) ≡ (isOn (getD ws i 0) || any isOn (drop (i + 1) ws))
+unfolding any
+any-here ws i h = rw (drop-cons ws i 0 h) (rw add-one)
+
 module _ {s ds ws : List ℕ} {i from : ℕ} (cut : Cut s ds ws i from) (h : i < length s) where
   abbrev next : List Event
   next = eventsOf (stretch from (from + getD s i 0) ds) (stretch from (from + getD s i 0) ws)
 
-  track-count : noteCount next ≡ length (keep isOn (stretch from (from + getD s i 0) ws))
-  track-count =
+  track-same : length (stretch from (from + getD s i 0) ws) ≡ length (stretch from (from + getD s i 0) ds)
+  track-same =
       let fits = cut-fits cut h in
       let there = length-stretch from (from + getD s i 0) ws (omega arith) (omega (arith, cut .same)) in
-      let here = length-stretch from (from + getD s i 0) ds (omega arith) fits in
-      timed-count 0 0 _ _ (there ∙ sym here)
+      there ∙ sym (length-stretch from (from + getD s i 0) ds (omega arith) fits)
 
-  track-notes : hasNotes next ≡ ltb 0 (length (keep isOn (stretch from (from + getD s i 0) ws)))
-  track-notes = any-count (λ (e : Event). isOn (e .word)) next ∙ ap (ltb 0) track-count
+  track-count : noteCount next ≡ length (keep isOn (stretch from (from + getD s i 0) ws))
+  track-count = timed-count 0 0 _ _ track-same
 
--- ---- a survey of the tracks before size i
+  track-notes : hasNotes next ≡ any isOn (stretch from (from + getD s i 0) ws)
+  track-notes = notes-words _ _ track-same
+
+  abbrev others : List (List Event)
+  others = later s ds ws (i + 1) (from + getD s i 0)
+
+  -- the tracks with notes: the next one, or not, and those behind it
+  kept : {some : Bool} → some ≡ any isOn (stretch from (from + getD s i 0) ws)
+      → keep hasNotes (later s ds ws i from) ≡ cond some (next ∷ keep hasNotes others) (keep hasNotes others)
+  unfolding keep
+  kept e = ap (keep hasNotes) (later-cons cut h) ∙ rw (track-notes, ← e)
+
+-- ---- how many parts there are: n of them among the tracks before size i
 pub partsFrom : ℕ → List (List Event) → ℕ
-partsFrom p ess = min mostParts (p + length (keep hasNotes ess))
+partsFrom n ess = min mostParts (n + length (keep hasNotes ess))
 
-pub mostFrom : ℕ → List (List Event) → ℕ
-mostFrom m ess = max m (largest (map noteCount ess))
-
-parts-more : (p n : ℕ) (es : List Event) (ess : List (List Event)) → hasNotes es ≡ ltb 0 n
-    → partsFrom p (es ∷ ess) ≡ partsFrom (min mostParts (p + flag (ltb 0 n))) ess
-unfolding partsFrom keep
-parts-more p n es ess h = rw h (elim (by-bool (ltb 0 n)) [ inl e ↦ rw e (omega arith) | inr e ↦ rw e (omega arith) ])
-
-most-more : (m n : ℕ) (es : List Event) (ess : List (List Event)) → noteCount es ≡ n → mostFrom m (es ∷ ess) ≡ mostFrom (max m n) ess
-unfolding mostFrom
-most-more m n es ess h = rw h (omega arith)
-
-pub record Surveyed (s ds ws : List ℕ) (r : Counts) (i from : ℕ) : Type 0 where
+pub record PartsSoFar (s ds ws : List ℕ) (n i from : ℕ) : Type 0 where
   pub cut : Cut s ds ws i from
-  pub few : r .parts ≤ mostParts
-  pub parts : partsFrom (r .parts) (later s ds ws i from) ≡ length (parts (piece s ds ws))
-  pub most : mostFrom (r .most) (later s ds ws i from) ≡ mostNotes (piece s ds ws)
+  pub few : n ≤ mostParts
+  pub parts : partsFrom n (later s ds ws i from) ≡ length (parts (piece s ds ws))
 
 module _ {s ds ws : List ℕ} where
-  pub survey-start : sizesAgree (piece s ds ws) ≡ true → Surveyed s ds ws (record { parts = 0; most = 0 }) 2 0
-  unfolding partsFrom mostFrom mostNotes
-  survey-start h =
+  pub parts-start : sizesAgree (piece s ds ws) ≡ true → PartsSoFar s ds ws 0 2 0
+  unfolding partsFrom
+  parts-start h =
       record {
         cut = cut-start s ds ws h;
         few = omega arith;
         parts = rw zero-add (sym (length-take mostParts (keep hasNotes (tracks (piece s ds ws)))));
-        most = omega arith;
       }
 
-  pub survey-next : {r r′ : Counts} {i from n : ℕ} → Surveyed s ds ws r i from → i < length s
-      → n ≡ length (keep isOn (stretch from (from + getD s i 0) ws)) → OneMore r n r′ → Surveyed s ds ws r′ (i + 1) (from + getD s i 0)
-  survey-next {r} {r′} {i} {from} {n} v h e o =
-      let e₁ = parts-more (r .parts) n (next (v .cut) h) (later s ds ws (i + 1) (from + getD s i 0)) (track-notes (v .cut) h ∙ ap (ltb 0) (sym e)) in
-      let e₂ = most-more (r .most) n (next (v .cut) h) (later s ds ws (i + 1) (from + getD s i 0)) (track-count (v .cut) h ∙ sym e) in
-      record {
-        cut = cut-next (v .cut) h;
-        few = omega (arith, o .parts);
-        parts = rw (o .parts) (sym e₁ ∙ rw (← later-cons (v .cut) h) (v .parts));
-        most = rw (o .most) (sym e₂ ∙ rw (← later-cons (v .cut) h) (v .most));
-      }
+  module _ {n i from : ℕ} (v : PartsSoFar s ds ws n i from) where
+    -- there are no more than these
+    pub parts-full : n ≡ mostParts → n ≡ length (parts (piece s ds ws))
+    unfolding partsFrom
+    parts-full e = omega (arith, v .parts)
 
-  pub survey-end : {r : Counts} {i from : ℕ} → Surveyed s ds ws r i from → length s ≤ i → IsSurvey (piece s ds ws) r
-  unfolding partsFrom mostFrom cutTracks keep
-  survey-end {r} {i} {from} v h =
-      let none = later-none s ds ws i from h in
-      let p : min mostParts (r .parts + 0) ≡ length (parts (piece s ds ws)) = rw none at (v .parts) in
-      let m : max (r .most) 0 ≡ mostNotes (piece s ds ws) = rw none at (v .most) in
-      record { parts = omega (arith, v .few); most = omega arith }
+    pub parts-end : length s ≤ i → n ≡ length (parts (piece s ds ws))
+    unfolding partsFrom cutTracks keep
+    parts-end h =
+        let all : min mostParts (n + 0) ≡ length (parts (piece s ds ws)) = rw (later-none s ds ws i from h) at (v .parts) in omega (arith, v .few)
+
+    module _ {some : Bool} (h : i < length s) (e : some ≡ any isOn (stretch from (from + getD s i 0) ws)) where
+      -- the next track is a part, or it is none
+      pub parts-more : some ≡ true → (n ≡ mostParts → ⊥) → PartsSoFar s ds ws (n + 1) (i + 1) (from + getD s i 0)
+      unfolding partsFrom
+      parts-more t l =
+          let all : keep hasNotes (later s ds ws i from) ≡ next (v .cut) h ∷ keep hasNotes (others (v .cut) h) = kept (v .cut) h e ∙ rw t in
+          let was : min mostParts (n + suc (length (keep hasNotes (others (v .cut) h)))) ≡ length (parts (piece s ds ws)) = rw all at (v .parts) in
+          record { cut = cut-next (v .cut) h; few = omega (arith, v .few); parts = omega arith }
+
+      pub parts-same : some ≡ false → PartsSoFar s ds ws n (i + 1) (from + getD s i 0)
+      unfolding partsFrom
+      parts-same f =
+          let all : keep hasNotes (later s ds ws i from) ≡ keep hasNotes (others (v .cut) h) = kept (v .cut) h e ∙ rw f in
+          record { cut = cut-next (v .cut) h; few = v .few; parts = rw all at (v .parts) }
+
+-- ---- the most note-ons of the tracks before size i
+pub mostFrom : ℕ → List (List Event) → ℕ
+mostFrom m ess = max m (largest (map noteCount ess))
+
+pub record MostSoFar (s ds ws : List ℕ) (m i from : ℕ) : Type 0 where
+  pub cut : Cut s ds ws i from
+  pub most : mostFrom m (later s ds ws i from) ≡ mostNotes (piece s ds ws)
+
+module _ {s ds ws : List ℕ} where
+  pub most-start : sizesAgree (piece s ds ws) ≡ true → MostSoFar s ds ws 0 2 0
+  unfolding mostFrom mostNotes
+  most-start h = record { cut = cut-start s ds ws h; most = omega arith }
+
+  module _ {m i from : ℕ} (v : MostSoFar s ds ws m i from) where
+    pub most-more : {r : ℕ} → i < length s → r ≡ max m (length (keep isOn (stretch from (from + getD s i 0) ws)))
+        → MostSoFar s ds ws r (i + 1) (from + getD s i 0)
+    unfolding mostFrom
+    most-more h e =
+        let was : mostFrom m (next (v .cut) h ∷ later s ds ws (i + 1) (from + getD s i 0)) ≡ mostNotes (piece s ds ws) = rw (later-cons (v .cut) h) at (v .most) in
+        record { cut = cut-next (v .cut) h; most = omega (arith, e, track-count (v .cut) h) }
+
+    pub most-end : length s ≤ i → m ≡ mostNotes (piece s ds ws)
+    unfolding mostFrom cutTracks
+    most-end h = let all : max m 0 ≡ mostNotes (piece s ds ws) = rw (later-none s ds ws i from h) at (v .most) in omega arith
 
 -- ---- the search for part k: as many parts stand before it among the tracks from size i on
 pub record Seeking (s ds ws : List ℕ) (k before i from : ℕ) : Type 0 where
@@ -162,40 +199,33 @@ module _ {s ds ws : List ℕ} {k : ℕ} where
         is = sym (getD-take mostParts with-notes k [] (omega arith));
       }
 
-  module _ {before i from n : ℕ} (v : Seeking s ds ws k before i from) (h : i < length s)
-      (e : n ≡ length (keep isOn (stretch from (from + getD s i 0) ws))) where
-    abbrev others : List (List Event)
-    others = later s ds ws (i + 1) (from + getD s i 0)
-
-    kept : keep hasNotes (later s ds ws i from) ≡ cond (ltb 0 n) (next (v .cut) h ∷ keep hasNotes others) (keep hasNotes others)
-    unfolding keep
-    kept = ap (keep hasNotes) (later-cons (v .cut) h) ∙ rw (track-notes (v .cut) h, ← e)
-
+  module _ {before i from : ℕ} {some : Bool} (v : Seeking s ds ws k before i from) (h : i < length s)
+      (e : some ≡ any isOn (stretch from (from + getD s i 0) ws)) where
     -- the track has notes, and no part is before it
-    pub seek-here : 0 < n → before ≡ 0 → IsSpan ds ws (getD (parts (piece s ds ws)) k []) (record { from = from; to = from + getD s i 0 })
+    pub seek-here : some ≡ true → before ≡ 0 → IsSpan ds ws (getD (parts (piece s ds ws)) k []) (record { from = from; to = from + getD s i 0 })
     seek-here l z =
-        let all : keep hasNotes (later s ds ws i from) ≡ next (v .cut) h ∷ keep hasNotes others = kept ∙ rw (lt-ltb 0 n l) in
+        let all : keep hasNotes (later s ds ws i from) ≡ next (v .cut) h ∷ keep hasNotes (others (v .cut) h) = kept (v .cut) h e ∙ rw l in
         let fits = cut-fits (v .cut) h in
         record {
           order = omega arith;
           deltas = fits;
           words = omega (arith, v .cut .same);
-          events = sym (sym (v .is) ∙ rw all (ap (λ (j : ℕ). getD (next (v .cut) h ∷ keep hasNotes others) j []) z));
+          events = sym (sym (v .is) ∙ rw all (ap (λ (j : ℕ). getD (next (v .cut) h ∷ keep hasNotes (others (v .cut) h)) j []) z));
         }
 
     -- it has none
-    pub seek-skip : n ≡ 0 → Seeking s ds ws k before (i + 1) (from + getD s i 0)
+    pub seek-skip : some ≡ false → Seeking s ds ws k before (i + 1) (from + getD s i 0)
     seek-skip z =
-        let all : keep hasNotes (later s ds ws i from) ≡ keep hasNotes others = kept ∙ rw z in
+        let all : keep hasNotes (later s ds ws i from) ≡ keep hasNotes (others (v .cut) h) = kept (v .cut) h e ∙ rw z in
         record { cut = cut-next (v .cut) h; there = rw all at (v .there); is = rw all at (v .is) }
 
     -- it has notes, and is passed
-    pub seek-past : 0 < n → 0 < before → Seeking s ds ws k (before - 1) (i + 1) (from + getD s i 0)
+    pub seek-past : some ≡ true → 0 < before → Seeking s ds ws k (before - 1) (i + 1) (from + getD s i 0)
     seek-past l b =
-        let all : keep hasNotes (later s ds ws i from) ≡ next (v .cut) h ∷ keep hasNotes others = kept ∙ rw (lt-ltb 0 n l) in
+        let all : keep hasNotes (later s ds ws i from) ≡ next (v .cut) h ∷ keep hasNotes (others (v .cut) h) = kept (v .cut) h e ∙ rw l in
         let one : before ≡ suc (before - 1) = omega arith in
-        let there : before < suc (length (keep hasNotes others)) = rw all at (v .there) in
-        let is : getD (next (v .cut) h ∷ keep hasNotes others) before [] ≡ getD (parts (piece s ds ws)) k [] = rw all at (v .is) in
+        let there : before < suc (length (keep hasNotes (others (v .cut) h))) = rw all at (v .there) in
+        let is : getD (next (v .cut) h ∷ keep hasNotes (others (v .cut) h)) before [] ≡ getD (parts (piece s ds ws)) k [] = rw all at (v .is) in
         record { cut = cut-next (v .cut) h; there = omega arith; is = rw one at is }
 
   -- the part is met

@@ -2,7 +2,6 @@
 use Prim.Native.Nat.{ℕ, suc, _+_, _*_, _<_, _≤_, _^_}
 use mathlib.Core.Bool.{Bool, true, false, cond}
 use mathlib.Core.List.{List, [], _∷_, map, flatMap}
-use mathlib.Core.Logic.{⊎-elim}
 use mathlib.Core.Path.{_≡_}
 use native.Mathlib.Omega.{arith}
 use lib.ListN.{length, take, drop, length-take, length-drop}
@@ -14,7 +13,7 @@ use Rattle.rules.specs.Refusals.{largestDelta, mostEvents}
 use Rattle.laws.specs.Admitted.{Admitted}
 use Rattle.laws.specs.NoteWords.{InRange}
 use Rattle.laws.proofs.Lists.{All-imp, All-map, All-take, All-drop, All-keep, All-flatMap}
-use Rattle.laws.proofs.Order.{by-bool}
+use Rattle.laws.proofs.Tests.{keep-few}
 use Rattle.laws.proofs.Refusals.{sizes-agree}
 use Rattle.laws.proofs.NoteRanges.{EventIn, notes-in-range}
 use Rattle.track_events.proofs.Ranges.{events-in}
@@ -55,11 +54,6 @@ quarter-fits x known = go (timecode x)
     go false = omega (arith, sizes-agree x (known .sizes) .division)
 
 -- ---- N, the most note-ons of one track: each track has no more, and it is at most the number of events
-
-keep-few : {A : Type 0} (f : A → Bool) (xs : List A) → length (keep f xs) ≤ length xs
-unfolding keep
-keep-few f [] = omega arith
-keep-few f (x ∷ xs) = let h = keep-few f xs in ⊎-elim (λ t. rw t (omega arith)) (λ t. rw t (omega arith)) (by-bool (f x))
 
 timed-few : (n t : ℕ) (ds ws : List ℕ) → length (timed n t ds ws) ≤ length ds
 unfolding timed

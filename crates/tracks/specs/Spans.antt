@@ -1,16 +1,12 @@
--- What the calls over a whole piece answer: a track's stretch of the arrays, and the counts of a survey.
-use Prim.Native.Nat.{ℕ, _+_, _≤_, min, max}
+-- What the calls over a whole piece answer: a track's stretch of the arrays.
+use Prim.Native.Nat.{ℕ, _≤_}
 use mathlib.Core.Bool.{true}
 use mathlib.Core.List.{List}
 use mathlib.Core.Path.{_≡_}
-use lib.Dec.{ltb}
 use lib.ListN.{length}
-use Rattle.rules.specs.Lists.{flag}
 use Rattle.rules.specs.Piece.{Piece, Event, piece, sizesAgree, firstTrack}
-use Rattle.rules.specs.RawNotes.{parts, mostParts, mostNotes}
 use Rattle.track_events.specs.Track.{eventsOf, stretch}
 use Rattle.tracks.specs.declared.Span.{Span}
-use Rattle.tracks.specs.declared.Counts.{Counts}
 
 -- r is the stretch of deltas ds and words ws that has the events es
 pub record IsSpan (ds ws : List ℕ) (es : List Event) (r : Span) : Type 0 where
@@ -22,13 +18,3 @@ pub record IsSpan (ds ws : List ℕ) (es : List Event) (r : Span) : Type 0 where
 -- r is the first track's stretch, in whatever arrays agree with the sizes
 abbrev pub FirstSpan : List ℕ → Span → Type 0
 FirstSpan sizes r = (ds ws : List ℕ) → sizesAgree (piece sizes ds ws) ≡ true → IsSpan ds ws (firstTrack (piece sizes ds ws)) r
-
--- r has the number of parts, and the most note-ons of one track
-pub record IsSurvey (x : Piece) (r : Counts) : Type 0 where
-  pub parts : r .parts ≡ length (parts x)
-  pub most : r .most ≡ mostNotes x
-
--- r is s with one track more, of n note-ons
-pub record OneMore (s : Counts) (n : ℕ) (r : Counts) : Type 0 where
-  pub parts : r .parts ≡ min mostParts (s .parts + flag (ltb 0 n))
-  pub most : r .most ≡ max (s .most) n

@@ -10,21 +10,15 @@ ghost use mathlib.Core.Bool.{true};
 ghost use mathlib.Core.List.{[]};
 ghost use mathlib.Core.Path.{_≡_};
 ghost use lib.ListN.{length, getD, drop};
-ghost use Rattle.rules.specs.Lists.{keep};
+ghost use Rattle.rules.specs.Lists.{any, keep};
 ghost use Rattle.rules.specs.Piece.{piece, sizesAgree, ticksPerQuarter, isOn};
-ghost use Rattle.rules.specs.RawNotes.{parts, mostParts};
-ghost use Rattle.tracks.specs.Spans.{IsSpan, FirstSpan, IsSurvey, OneMore};
+ghost use Rattle.rules.specs.RawNotes.{parts, mostNotes};
+ghost use Rattle.tracks.specs.Spans.{IsSpan, FirstSpan};
 
 // A track as a stretch of deltas and words: &deltas[from..to] and &words[from..to].
 pub struct Span {
     pub from: usize,
     pub to: usize,
-}
-
-// The number of parts, and the most note-ons above velocity 0 in one track.
-pub struct Counts {
-    pub parts: usize,
-    pub most: usize,
 }
 
 // The ticks per quarter: 480 for timecode, else the division.
@@ -84,6 +78,20 @@ fn ons(words: &[u32]) -> usize
     n
 }
 
+// Whether a track has notes.
+pub fn has_notes(words: &[u32]) -> bool
+    ensures { λ r. ⌜ r ≡ any isOn (now (words .entry)) ⌝ }
+{
+    let mut at = 0;
+    while at < words.len() {
+        if is_on(words[at]) {
+            return true;
+        }
+        at += 1;
+    }
+    false
+}
+
 // The larger number.
 fn larger(m: usize, n: usize) -> usize
     ensures { λ r. ⌜ r ≡ max m n ⌝ }
@@ -91,43 +99,53 @@ fn larger(m: usize, n: usize) -> usize
     if m < n { n } else { m }
 }
 
-// One track more, with n note-ons: at most 32 tracks with notes are parts.
-fn one_more(s: Counts, n: usize) -> Counts
-    requires { ⌜ s .parts ≤ mostParts ⌝ }
-    ensures { λ r. ⌜ OneMore s n r ⌝ }
-{
-    if n == 0 {
-        return s;
-    }
-    let most = larger(s.most, n);
-    if s.parts < MOST_PARTS {
-        Counts {
-            parts: s.parts + 1,
-            most,
-        }
-    } else {
-        Counts {
-            parts: s.parts,
-            most,
-        }
-    }
-}
-
-// The number of parts, and N: the most note-ons in one track.
-pub fn survey(sizes: &[u32], deltas: &[u32], words: &[u32]) -> Counts
+// The number of parts: at most 32 tracks with notes are parts. It reads no track behind its first note.
+pub fn count_parts(sizes: &[u32], deltas: &[u32], words: &[u32]) -> usize
     requires { ⌜ sizesAgree (piece (now sizes) (now deltas) (now words)) ≡ true ⌝ }
-    ensures { λ r. ⌜ IsSurvey (piece (now (sizes .entry)) (now (deltas .entry)) (now (words .entry))) r ⌝ }
+    ensures { λ r. ⌜ r ≡ length (parts (piece (now (sizes .entry)) (now (deltas .entry)) (now (words .entry)))) ⌝ }
 {
-    let mut s = Counts { parts: 0, most: 0 };
+    let mut n = 0;
     let mut from = 0;
     let mut i = 2;
     while i < sizes.len() {
+        if n == MOST_PARTS {
+            return n;
+        }
         let to = from + size(sizes[i]);
-        s = one_more(s, ons(cut(words, from, to)));
+        if has_notes(cut(words, from, to)) {
+            n += 1;
+        }
         from = to;
         i += 1;
     }
-    s
+    n
+}
+
+// The most note-ons with one track more. A track that is no longer than the most so far cannot have more of them.
+fn with_track(most: usize, words: &[u32]) -> usize
+    ensures { λ r. ⌜ r ≡ max most (length (keep isOn (now (words .entry)))) ⌝ }
+{
+    if words.len() <= most {
+        return most;
+    }
+    larger(most, ons(words))
+}
+
+// N: the most note-ons in one track.
+pub fn most_notes(sizes: &[u32], deltas: &[u32], words: &[u32]) -> usize
+    requires { ⌜ sizesAgree (piece (now sizes) (now deltas) (now words)) ≡ true ⌝ }
+    ensures { λ r. ⌜ r ≡ mostNotes (piece (now (sizes .entry)) (now (deltas .entry)) (now (words .entry))) ⌝ }
+{
+    let mut most = 0;
+    let mut from = 0;
+    let mut t = 2;
+    while t < sizes.len() {
+        let to = from + size(sizes[t]);
+        most = with_track(most, cut(words, from, to));
+        from = to;
+        t += 1;
+    }
+    most
 }
 
 // The track of part k, counted from 0. It reads no event behind that track.
@@ -142,7 +160,7 @@ pub fn part_track(sizes: &[u32], deltas: &[u32], words: &[u32], k: usize) -> Spa
     let mut i = 2;
     while i < sizes.len() {
         let to = from + size(sizes[i]);
-        if ons(cut(words, from, to)) != 0 {
+        if has_notes(cut(words, from, to)) {
             if before == 0 {
                 return Span { from, to };
             }

@@ -1,11 +1,11 @@
 -- A table of lengths read as values, entry by entry: to split a span by those from entry 0 on is section 6's split.
-use Prim.Native.Nat.{ℕ, _+_, _-_, _/_, _%_, _<_, _≤_}
+use Prim.Native.Nat.{ℕ, zero, suc, _+_, _-_, _/_, _%_, _<_, _≤_}
 use mathlib.Core.Bool.{Bool, true, false, cond, _&&_}
 use mathlib.Core.List.{List, [], _∷_, _++_, flatMap, map}
 use mathlib.Core.Logic.{inl, inr}
-use mathlib.Core.Option.{none}
 use mathlib.Core.Path.{_≡_, refl, sym, ap, _∙_}
-use native.Mathlib.Nat.{div-zero, mod-zero, div-add-mod', le-mul-of-pos-right}
+use native.Mathlib.Nat.{zero-add, div-zero, mod-zero, div-add-mod', le-mul-of-pos-right}
+use native.Mathlib.Numerals.{add-one}
 use native.Mathlib.Omega.{arith}
 use borrow.Author.Tests.{leb-true, leb-false, lt-ltb, le-ltb}
 use lib.Dec.{ltb, leb}
@@ -17,7 +17,7 @@ use Rattle.laws.specs.Sort.{count}
 use Rattle.laws.proofs.Order.{by-bool, by-lt}
 use Rattle.laws.proofs.Sort.{count-none, count-cons}
 use Rattle.laws.proofs.Splits.{split-zero, split-literal, split-fits, split-over}
-use Rattle.values.specs.Table.{tableOf, entry}
+use Rattle.values.specs.Table.{tableOf, entry, Skips}
 
 -- the pieces of t ticks by the entries from i on
 unfoldable pub coming : List ℕ → ℕ → ℕ → List Value
@@ -41,6 +41,10 @@ module _ (table : List ℕ) (i t : ℕ) where
   pub coming-end : 18 ≤ i → coming table i t ≡ []
   unfolding coming split
   coming-end h = rw (count-none i 18 h)
+
+  pub coming-zero : t ≡ 0 → coming table i t ≡ []
+  unfolding coming
+  coming-zero z = rw z (split-zero (map (entry table) (count i (18 - i))))
 
   module _ (inside : i < 18) where
     pub coming-fits : (ltb 0 (getD table i 0) && leb (getD table i 0) t) ≡ true
@@ -80,21 +84,39 @@ module _ (p : ℕ) where
         | inr e ↦ rw e (rw (div-zero, mod-zero) (split-listed vs t))
       ]
 
-  pub table-split : (t : ℕ) → 0 < p → coming (tableOf p) 0 t ≡ splitSpan p t .pieces
+  table-split : (t : ℕ) → 0 < p → coming (tableOf p) 0 t ≡ splitSpan p t .pieces
   unfolding coming count tableOf values flatMap whole listed
   table-split t h =
       split-listed (flatMap (λ c. value p c 1 ∷ value p c 0 ∷ []) staffCodes) t ∙ sym (split-literal p t h)
 
+-- Entries that do not fit may be left out.
+coming-skip : (table : List ℕ) (t r : ℕ) → r ≤ 18 → ((i : ℕ) → i < r → (ltb 0 (getD table i 0) && leb (getD table i 0) t) ≡ false)
+    → coming table r t ≡ coming table 0 t
+coming-skip table t zero h over = refl
+coming-skip table t (suc r) h over =
+    ap (λ (i : ℕ). coming table i t) (sym (add-one r)) ∙ sym (coming-over table r t (omega arith) (over r (omega arith)))
+    ∙ coming-skip table t r (omega arith) (λ i l. over i (omega arith))
+
+-- A table of p: its pieces are section 6's, also from an entry on before which none fits.
+module _ {table : List ℕ} (p t : ℕ) (is : table ≡ tableOf p) where
+  pub pieces : 0 < p → coming table 0 t ≡ splitSpan p t .pieces
+  pieces h = rw is (table-split p t h)
+
+  pub skipped : {r : ℕ} → Skips table t r → coming table r t ≡ coming table 0 t
+  skipped {r} s = coming-skip table t r (s .within) (s .none-fits p is)
+
 -- Of the pieces of t ticks n are counted, and the ticks left go to the entries from i on.
 pub record Counted (table : List ℕ) (t n left i : ℕ) : Type 0 where
-  pub within : i ≤ 18
   pub few : n + left ≤ t
-  pub is : n + length (coming table i left) ≡ length (coming table 0 t)
+  pub is : (p : ℕ) → 0 < p → table ≡ tableOf p → n + length (coming table i left) ≡ length (splitSpan p t .pieces)
+
+pub counted-start : {table : List ℕ} {t r : ℕ} → Skips table t r → Counted table t 0 t r
+counted-start {table} {t} {r} s = record { few = omega arith; is = λ p h e. zero-add _ ∙ ap length (skipped p t e s ∙ pieces p t e h) }
 
 pub division-few : (t l : ℕ) → 0 < l → t / l + t % l ≤ t
 division-few t l h = omega (arith, div-add-mod' t l, le-mul-of-pos-right (t / l) h)
 
-module _ {table : List ℕ} {t n left i : ℕ} (inside : i < 18) (p : Counted table t n left i) where
+module _ {table : List ℕ} {t n left i : ℕ} (inside : i < 18) (c : Counted table t n left i) where
   -- entry i fits
   module _ (yes : (ltb 0 (getD table i 0) && leb (getD table i 0) left) ≡ true) where
     pub counted-long : 0 < getD table i 0
@@ -103,26 +125,14 @@ module _ {table : List ℕ} {t n left i : ℕ} (inside : i < 18) (p : Counted ta
     pub counted-more : Counted table t (n + left / getD table i 0) (left % getD table i 0) (i + 1)
     counted-more =
         record {
-          within = omega arith;
-          few = omega (arith, division-few left (getD table i 0) counted-long);
-          is = omega (arith, coming-count table i left inside);
+          few = omega (arith, c .few, division-few left (getD table i 0) counted-long);
+          is = λ p h e. omega (arith, c .is p h e, coming-count table i left inside);
         }
 
   pub counted-over : (ltb 0 (getD table i 0) && leb (getD table i 0) left) ≡ false → Counted table t n left (i + 1)
-  counted-over e = record { within = omega arith; few = p .few; is = rw (← coming-over table i left inside e) (p .is) }
+  counted-over over = record { few = c .few; is = λ p h e. rw (← coming-over table i left inside over) (c .is p h e) }
 
--- no ticks are left
-pub counted-all : {table : List ℕ} {t n left i : ℕ} (p : ℕ) → left ≡ 0 → Counted table t n left i → 0 < p → table ≡ tableOf p
+-- the ticks left give no piece
+pub counted-end : {table : List ℕ} {t n left i : ℕ} (p : ℕ) → coming table i left ≡ [] → Counted table t n left i → 0 < p → table ≡ tableOf p
     → n ≡ length (splitSpan p t .pieces)
-unfolding coming
-counted-all {table} {t} {n} {left} {i} p z c h e =
-    let none : length (coming table i left) ≡ 0 = rw z (ap length (split-zero (map (entry table) (count i (18 - i))))) in
-    let all : length (coming table 0 t) ≡ length (splitSpan p t .pieces) = rw e (ap length (table-split p t h)) in
-    omega (arith, c .is)
-
-pub counted-end : {table : List ℕ} {t n left i : ℕ} (p : ℕ) → 18 ≤ i → Counted table t n left i → 0 < p → table ≡ tableOf p
-    → n ≡ length (splitSpan p t .pieces)
-counted-end {table} {t} {n} {left} {i} p over c h e =
-    let none : length (coming table i left) ≡ 0 = ap length (coming-end table i left over) in
-    let all : length (coming table 0 t) ≡ length (splitSpan p t .pieces) = rw e (ap length (table-split p t h)) in
-    omega arith
+counted-end p last c h e = omega (arith, c .is p h e, ap length last)

@@ -1,3 +1,4 @@
 pub mod Entries
+pub mod Skipped
 pub mod Spreading
 pub mod Tables

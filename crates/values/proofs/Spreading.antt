@@ -9,8 +9,8 @@ use lib.ListN.{length, getD, set, take, length-append, length-map}
 use lib.Seq.{length-take-le}
 use Rattle.rules.specs.Values.{splitSpan}
 use Rattle.laws.proofs.Filling.{Filling, filling-count, filling-more, filling-end}
-use Rattle.values.specs.Table.{tableOf, entry, pieceWord, Room, Spanned}
-use Rattle.values.proofs.Entries.{coming, coming-fits, coming-over, coming-end, table-split}
+use Rattle.values.specs.Table.{tableOf, entry, pieceWord, Skips, Room, Spanned}
+use Rattle.values.proofs.Entries.{coming, coming-fits, coming-over, pieces, skipped}
 
 -- the words still to come, and all that the array starts with in the end
 abbrev wordsFrom : List ℕ → ℕ → ℕ → ℕ → List ℕ
@@ -20,30 +20,23 @@ abbrev front : List ℕ → ℕ → ℕ → ℕ → List ℕ → List ℕ
 front table t from bits out₀ = take from out₀ ++ wordsFrom table bits 0 t
 
 pub record Spreading (table : List ℕ) (t from bits : ℕ) (out₀ out : List ℕ) (left at i : ℕ) : Type 0 where
-  pub within : i ≤ 18
   pub start : from ≤ length out₀
   pub room : length (front table t from bits out₀) ≤ length out₀
   pub filling : Filling (front table t from bits out₀) (wordsFrom table bits i left) at out₀ out
-
--- the table is that of p: its pieces are section 6's
-module _ (table : List ℕ) (p : ℕ) (some-ticks : 0 < p) (is : table ≡ tableOf p) where
-  pieces : (t : ℕ) → coming table 0 t ≡ splitSpan p t .pieces
-  pieces t = rw is (table-split p t some-ticks)
 
 front-length : (table : List ℕ) (t from bits : ℕ) (out₀ : List ℕ) → from ≤ length out₀
     → length (front table t from bits out₀) ≡ from + length (coming table 0 t)
 front-length table t from bits out₀ h = rw (length-append, length-take-le from out₀ h, length-map)
 
-pub spreading-start : (table : List ℕ) (t from bits : ℕ) (out₀ : List ℕ) → Room table t from (length out₀)
-    → Spreading table t from bits out₀ out₀ t from 0
-spreading-start table t from bits out₀ r =
-    let count : length (coming table 0 t) ≡ length (splitSpan (r .p) t .pieces) = ap length (pieces table (r .p) (r .some-ticks) (r .is) t) in
-    let start : from ≤ length out₀ = omega (arith, r .room) in
+pub spreading-start : {table : List ℕ} {t from bits r : ℕ} {out₀ : List ℕ} → Skips table t r → Room table t from (length out₀)
+    → Spreading table t from bits out₀ out₀ t from r
+spreading-start {table} {t} {from} {bits} {r} {out₀} s q =
+    let count : length (coming table 0 t) ≡ length (splitSpan (q .p) t .pieces) = ap length (pieces (q .p) t (q .is) (q .some-ticks)) in
+    let start : from ≤ length out₀ = omega (arith, q .room) in
     record {
-      within = omega arith;
       start = start;
-      room = omega (arith, front-length table t from bits out₀ start, r .room);
-      filling = record { within = start; kept = refl; parts = refl; rest = refl };
+      room = omega (arith, front-length table t from bits out₀ start, q .room);
+      filling = record { within = start; kept = refl; parts = rw (skipped (q .p) t (q .is) s); rest = refl };
     }
 
 module _ {table : List ℕ} {t from bits : ℕ} {out₀ out : List ℕ} {left at i : ℕ} (p : Spreading table t from bits out₀ out left at i) where
@@ -60,17 +53,18 @@ module _ {table : List ℕ} {t from bits : ℕ} {out₀ out : List ℕ} {left at
 
     pub spreading-more : Spreading table t from bits out₀ (set out at (i / 2 + (1 - i % 2) * 16 + bits)) (left - getD table i 0) (at + 1) i
     spreading-more =
-        record { within = p .within; start = p .start; room = p .room; filling = filling-more (pieceWord bits (entry table i)) spreading-room next }
+        record { start = p .start; room = p .room; filling = filling-more (pieceWord bits (entry table i)) spreading-room next }
 
   pub spreading-over : i < 18 → (ltb 0 (getD table i 0) && leb (getD table i 0) left) ≡ false → Spreading table t from bits out₀ out left at (i + 1)
   spreading-over inside no-fit =
-      record { within = omega arith; start = p .start; room = p .room; filling = rw (coming-over table i left inside no-fit) at (p .filling) }
+      record { start = p .start; room = p .room; filling = rw (coming-over table i left inside no-fit) at (p .filling) }
 
-  pub spreading-end : 18 ≤ i → (d : ℕ) → 0 < d → table ≡ tableOf d → Spanned d t from bits out₀ out at
-  spreading-end over d h e =
-      let last : Filling (front table t from bits out₀) [] at out₀ out = rw (coming-end table i left over) at (p .filling) in
+  -- the ticks left give no piece
+  pub spreading-end : coming table i left ≡ [] → (d : ℕ) → 0 < d → table ≡ tableOf d → Spanned d t from bits out₀ out at
+  spreading-end none d h e =
+      let last : Filling (front table t from bits out₀) [] at out₀ out = rw none at (p .filling) in
       let count : at ≡ length (front table t from bits out₀) = omega (arith, filling-count last) in
       record {
-        next = count ∙ front-length table t from bits out₀ (p .start) ∙ rw (pieces table d h e t);
-        is = rw (count, ← pieces table d h e t) (filling-end last);
+        next = count ∙ front-length table t from bits out₀ (p .start) ∙ rw (pieces d t e h);
+        is = rw (count, ← pieces d t e h) (filling-end last);
       }

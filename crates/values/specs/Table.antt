@@ -1,8 +1,9 @@
 -- What the contracts of `values` cite: the table of lengths, and a span that is written to an array.
 use Prim.Native.Nat.{ℕ, _+_, _-_, _*_, _/_, _%_, _<_, _≤_}
-use mathlib.Core.Bool.{cond}
+use mathlib.Core.Bool.{false, cond, _&&_}
 use mathlib.Core.List.{List, [], _∷_, _++_, map, flatMap}
 use mathlib.Core.Path.{_≡_}
+use lib.Dec.{ltb, leb}
 use lib.ListN.{length, getD, take, drop}
 use Rattle.rules.specs.Values.{Value, ticksOf, isWhole, staffCodes, splitSpan}
 
@@ -25,6 +26,11 @@ pieceWord bits v = v .code + v .dots * 16 + bits
 -- a span's pieces as words, longest first
 abbrev pub spanWords : ℕ → ℕ → ℕ → List ℕ
 spanWords p t bits = map (pieceWord bits) (splitSpan p t .pieces)
+
+-- Where the table is that of a division, no entry before r is a value that fits t ticks.
+pub record Skips (table : List ℕ) (t r : ℕ) : Type 0 where
+  pub within : r ≤ 18
+  pub none-fits : (p : ℕ) → table ≡ tableOf p → (i : ℕ) → i < r → (ltb 0 (getD table i 0) && leb (getD table i 0) t) ≡ false
 
 -- The table is that of a division p, and the pieces of t ticks have room behind `from` in an array of a size.
 pub record Room (table : List ℕ) (t from size : ℕ) : Type 0 where

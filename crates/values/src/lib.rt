@@ -5,7 +5,7 @@ ghost use mathlib.Core.Path.{_≡_};
 ghost use lib.Dec.{leb, ltb};
 ghost use lib.ListN.{length};
 ghost use Rattle.rules.specs.Values.{splitSpan};
-ghost use Rattle.values.specs.Table.{entryOf, tableOf, Room, Spanned};
+ghost use Rattle.values.specs.Table.{entryOf, tableOf, Skips, Room, Spanned};
 
 fn power_of_two(k: u64) -> u64
     requires { ⌜ k < 64 ⌝ }
@@ -43,13 +43,29 @@ pub fn note_values(p: u64) -> [u64; 18]
     values
 }
 
+// The entry to begin with: none before it fits.
+fn first_entry(values: &[u64; 18], ticks: u64) -> usize
+    ensures { λ r. ⌜ Skips (now (values .entry)) ticks r ⌝ }
+{
+    if ticks < values[13] {
+        return 14;
+    }
+    if ticks < values[9] {
+        return 10;
+    }
+    if ticks < values[5] {
+        return 6;
+    }
+    0
+}
+
 // How many pieces a span takes: a division for each entry that fits, however long it is.
 pub fn count_pieces(values: &[u64; 18], ticks: u64) -> u64
     ensures { λ r. ⌜ ((p : ℕ) → 0 < p → now (values .entry) ≡ tableOf p → r ≡ length (splitSpan p ticks .pieces)) ⌝ }
 {
     let mut count: u64 = 0;
     let mut left = ticks;
-    let mut i: usize = 0;
+    let mut i: usize = first_entry(values, ticks);
     while i < 18 {
         if left == 0 {
             return count;
@@ -87,8 +103,11 @@ pub fn split_span(values: &[u64; 18], ticks: u64, out: &mut [u32], from: usize, 
 {
     let mut left = ticks;
     let mut at = from;
-    let mut i: usize = 0;
+    let mut i: usize = first_entry(values, ticks);
     while i < 18 {
+        if left == 0 {
+            return at;
+        }
         let length = values[i];
         if fits(length, left) {
             out[at] = word(i, bits);

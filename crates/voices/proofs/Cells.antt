@@ -14,8 +14,7 @@ use Rattle.chords.specs.Columns.{chordAt}
 use Rattle.chords.specs.Steps.{Stored}
 use Rattle.laws.proofs.Places.{upTo-length, upTo-get, upTo-is, down-same, down-more}
 use Rattle.chords.proofs.Stores.{same-cell, chord-same}
-use Rattle.voices.specs.Placing.{numberAt, voiceAt, voicesAt, Cells, Pushed}
-use Rattle.voices.specs.declared.Lasts.{Lasts}
+use Rattle.voices.specs.Placing.{Lasts, numberAt, voiceAt, voicesAt, Cells, Pushed}
 
 -- ---- columns
 pub column-end : (n v : ℕ) → v < 4 → (10 + v) * n + n ≤ 14 * n

@@ -8,27 +8,26 @@ use native.Mathlib.Omega.{arith}
 use borrow.Author.Count.{below-more}
 use borrow.Author.Tests.{le-leb, lt-leb}
 use lib.Dec.{eqb, leb}
-use lib.ListN.{length, getD}
+use lib.ListN.{length, getD, length-map}
 use Rattle.rules.specs.Lists.{any, every, position}
 use Rattle.rules.specs.Voices.{Chord, Voice, isFree, startsWith, voiceEnd, endsEarliest, free, together, cut, choose}
 use Rattle.laws.proofs.Lists.{All-imp, All-all, any-none}
-use Rattle.voices.specs.Placing.{voiceStart, Known}
-use Rattle.voices.specs.declared.Lasts.{Lasts}
+use Rattle.voices.specs.Placing.{Lasts, voiceStart, Known}
 use Rattle.laws.proofs.Tests.{Scanned, scanned-on, scanned-at, scanned-end}
 use Rattle.laws.proofs.Tests.{position-at, position-found, position-lost, position-agree, position-map, every-passes, every-fails, every-map}
 
 -- ---- the first of four voices that passes a test
 
 -- none of the first v passes
-module _ {f : ℕ → Bool} {l : List ℕ} {v : ℕ} (inv : (length l ≡ 4) × Scanned f l v) where
-  pub first-on : v < 4 → f (getD l v 0) ≡ false → (length l ≡ 4) × Scanned f l (v + 1)
-  first-on h e = (inv .0, scanned-on (inv .1) (omega (arith, inv .0)) e)
+module _ {f : ℕ → Bool} {l : List ℕ} {v : ℕ} (inv : length l ≡ 4 → Scanned f l v) where
+  pub first-on : v < 4 → f (getD l v 0) ≡ false → length l ≡ 4 → Scanned f l (v + 1)
+  first-on h e four = scanned-on (inv four) (omega arith) e
 
-  pub first-at : v < 4 → f (getD l v 0) ≡ true → v ≡ position f l
-  first-at h t = scanned-at (inv .1) (omega (arith, inv .0)) t
+  pub first-at : v < 4 → f (getD l v 0) ≡ true → length l ≡ 4 → v ≡ position f l
+  first-at h t four = scanned-at (inv four) (omega arith) t
 
-  pub first-none : 4 ≤ v → 4 ≡ position f l
-  first-none h = sym (inv .0) ∙ scanned-end (inv .1) (omega (arith, inv .0))
+  pub first-none : 4 ≤ v → length l ≡ 4 → 4 ≡ position f l
+  first-none h four = sym four ∙ scanned-end (inv four) (omega arith)
 
 -- ---- the earliest end
 
@@ -127,20 +126,27 @@ module _ (c : Chord) where
 
 -- ---- by what is known of the voices
 module _ {l : Lasts} {vs : List Voice} {start : ℕ} (c : Chord) (e : c .start ≡ start) (k : Known l vs) where
-  pub known-free : {v : ℕ} → v ≡ position (λ x. leb x start) (l .ends) → v < 4 → free v ≡ choose c vs
-  known-free p h = let four = k .four in chosen-free c vs (rw (← e, k .ends) at p) (omega arith)
+  four-starts : length (l .starts) ≡ 4
+  four-starts = ap length (k .starts) ∙ length-map vs voiceStart ∙ k .four
 
-  pub known-together : {u v : ℕ} → u ≡ position (λ x. leb x start) (l .ends) → 4 ≤ u → v ≡ position (λ x. eqb x start) (l .starts) → v < 4
-      → together v ≡ choose c vs
+  four-ends : length (l .ends) ≡ 4
+  four-ends = ap length (k .ends) ∙ length-map vs voiceEnd ∙ k .four
+
+  pub known-free : {v : ℕ} → (length (l .ends) ≡ 4 → v ≡ position (λ x. leb x start) (l .ends)) → v < 4 → free v ≡ choose c vs
+  known-free p h = let four = k .four in chosen-free c vs (rw (← e, k .ends) at (p four-ends)) (omega arith)
+
+  pub known-together : {u v : ℕ} → (length (l .ends) ≡ 4 → u ≡ position (λ x. leb x start) (l .ends)) → 4 ≤ u
+      → (length (l .starts) ≡ 4 → v ≡ position (λ x. eqb x start) (l .starts)) → v < 4 → together v ≡ choose c vs
   known-together q g p h =
       let four = k .four in
-      let lost = rw (← e, k .ends) at q in
-      chosen-together c vs (omega arith) (rw (← e, k .starts) at p) (omega arith)
+      let lost = rw (← e, k .ends) at (q four-ends) in
+      chosen-together c vs (omega arith) (rw (← e, k .starts) at (p four-starts)) (omega arith)
 
-  pub known-cut : {t u v : ℕ} → t ≡ position (λ x. leb x start) (l .ends) → 4 ≤ t → u ≡ position (λ x. eqb x start) (l .starts) → 4 ≤ u
-      → v ≡ position (λ x. every (leb x) (l .ends)) (l .ends) → cut v ≡ choose c vs
+  pub known-cut : {t u v : ℕ} → (length (l .ends) ≡ 4 → t ≡ position (λ x. leb x start) (l .ends)) → 4 ≤ t
+      → (length (l .starts) ≡ 4 → u ≡ position (λ x. eqb x start) (l .starts)) → 4 ≤ u
+      → (length (l .ends) ≡ 4 → v ≡ position (λ x. every (leb x) (l .ends)) (l .ends)) → cut v ≡ choose c vs
   known-cut q g q′ g′ p =
       let four = k .four in
-      let lost = rw (← e, k .ends) at q in
-      let lost′ = rw (← e, k .starts) at q′ in
-      chosen-cut c vs (omega arith) (omega arith) (rw (k .ends) at p)
+      let lost = rw (← e, k .ends) at (q four-ends) in
+      let lost′ = rw (← e, k .starts) at (q′ four-starts) in
+      chosen-cut c vs (omega arith) (omega arith) (rw (k .ends) at (p four-ends))

@@ -22,9 +22,9 @@ use Rattle.chords.specs.Columns.{noteAt, fallingAt, chordAt, ChordsIn}
 use Rattle.chords.specs.Steps.{SortedTo}
 use Rattle.chords.proofs.GivenNotes.{notes-read}
 use Rattle.laws.proofs.Places.{getD-map, upTo-length, upTo-get, upTo-is, upTo-more, reverse-down, foldl-more}
-use Rattle.voices.specs.Placing.{Known, numberAt, voiceAt, voicesAt, Cells, Placed, Spread}
+use Rattle.voices.specs.Placing.{Lasts, Known, numberAt, voiceAt, voicesAt, Cells, Placed, Spread}
 use Rattle.voices.specs.VoicesIn.{VoicesIn}
-use Rattle.voices.specs.declared.Lasts.{Lasts}
+use Rattle.voices.specs.declared.Voices.{Voices}
 use Rattle.voices.proofs.Bounds.{Small, voices-small}
 use Rattle.voices.proofs.Cells.{column-end}
 
@@ -74,7 +74,7 @@ spreading-one {n} {m} {k} {l} {r} {w} {w′} {w₂} room h s p =
       known = p .known;
     }
 
-pub spreading-end : {n m k : ℕ} {l : Lasts} {w w′ : List ℕ} → m ≤ k → Spreading n m k l w w′ → Spread n m l w w′
+pub spreading-end : {n m k : ℕ} {l : Lasts} {w w′ : List ℕ} → m ≤ k → Spreading n m k l w w′ → Spread n m (record { lens = l .lens }) w w′
 spreading-end {n} {m} {k} {l} {w} {w′} h s =
     let upto = s .upto in
     let e : k ≡ m = omega arith in
@@ -106,29 +106,29 @@ module _ {n m : ℕ} {lens w : List ℕ} (room : m ≤ n) (cells : Cells n m len
 pub sorted-rise : {n m g : ℕ} {w w′ : List ℕ} → SortedTo n m g w w′ → Rises noteStart (upTo (fallingAt n w′) m)
 sorted-rise {n} {m} {g} {w} s = subst (Rises noteStart) (sym (s .notes)) (sorted-rises g (upTo (noteAt n w) m))
 
-module _ {ns : List RawNote} {n count m g : ℕ} {w w₁ w₂ w₃ : List ℕ} {l : Lasts} (given : NotesIn ns n count w) (small : All (InRange (2 ^ 47)) ns)
+module _ {ns : List RawNote} {n count m g : ℕ} {w w₁ w₂ w₃ : List ℕ} {r : Voices} (given : NotesIn ns n count w) (small : All (InRange (2 ^ 47)) ns)
     (grid : g ≤ largestSize) (s : SortedTo n count g w w₁) (c : ChordsIn (reverse (gathered (upTo (fallingAt n w₁) count))) n m w₂)
-    (p : Spread n m l w₂ w₃) where
+    (p : Spread n m r w₂ w₃) where
   chords-is : upTo (chordAt n w₂) m ≡ chords g ns
   chords-is = c .chords ∙ ap (λ (xs : List RawNote). reverse (gathered xs)) (s .notes) ∙ ap (chords g) (notes-read given small)
 
-  voices-is : voicesAt n w₃ (l .lens) ≡ spread (chords g ns)
+  voices-is : voicesAt n w₃ (r .lens) ≡ spread (chords g ns)
   voices-is = p .voices ∙ ap spread chords-is
 
-  voice-is : (v : ℕ) → v < 4 → reverse (voiceAt n w₃ (l .lens) v) ≡ getD (voices g ns) v []
+  voice-is : (v : ℕ) → v < 4 → reverse (voiceAt n w₃ (r .lens) v) ≡ getD (voices g ns) v []
   unfolding voices
   voice-is v h =
       sym (ap (λ (xs : List Voice). getD (map reverse xs) v []) (sym voices-is)
-      ∙ getD-map reverse (voicesAt n w₃ (l .lens)) v [] [] (omega (arith, upTo-length (voiceAt n w₃ (l .lens)) 4))
-      ∙ ap reverse (upTo-get (voiceAt n w₃ (l .lens)) 4 v [] h))
+      ∙ getD-map reverse (voicesAt n w₃ (r .lens)) v [] [] (omega (arith, upTo-length (voiceAt n w₃ (r .lens)) 4))
+      ∙ ap reverse (upTo-get (voiceAt n w₃ (r .lens)) 4 v [] h))
 
-  pub voices-in : VoicesIn (voices g ns) n (record { lens = l .lens }) w₃
+  pub voices-in : VoicesIn (voices g ns) n r w₃
   voices-in =
       let room = c .room in
       record {
         lens = λ v h.
-            sym (ap length (sym (voice-is v h) ∙ reverse-down (λ j. chordAt n w₃ (numberAt n w₃ v j)) (getD (l .lens) v 0))
-            ∙ upTo-length _ (getD (l .lens) v 0));
+            sym (ap length (sym (voice-is v h) ∙ reverse-down (λ j. chordAt n w₃ (numberAt n w₃ v j)) (getD (r .lens) v 0))
+            ∙ upTo-length _ (getD (r .lens) v 0));
         chords = λ v h. chords-are room (p .cells) v h ∙ voice-is v h;
         room = λ v h. omega (arith, p .cells .few v h);
         numbers = λ v h. rw (numbers-are room (p .cells) v h) (All-upTo (λ i. i < n) (numberAt n w₃ v) _ (λ j o. omega (arith, p .cells .below v j h o)));

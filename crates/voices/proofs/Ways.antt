@@ -16,8 +16,7 @@ use Rattle.laws.specs.Places.{down}
 use Rattle.chords.specs.Columns.{chordAt}
 use Rattle.chords.specs.Steps.{Stored}
 use Rattle.laws.proofs.Places.{upTo-get}
-use Rattle.voices.specs.Placing.{voiceStart, Known, numberAt, voiceAt, voicesAt, Cells, Next, Pushed, withKeys, endingAt, Placed}
-use Rattle.voices.specs.declared.Lasts.{Lasts}
+use Rattle.voices.specs.Placing.{Lasts, voiceStart, Known, numberAt, voiceAt, voicesAt, Cells, Next, Pushed, withKeys, endingAt, Placed}
 use Rattle.voices.proofs.Cells.{pushed-kept, pushed-chord, pushed-cells, pushed-voices, last-is, changed-voices, changed-cells}
 use Rattle.laws.proofs.Tests.{position-passes}
 use Rattle.laws.proofs.Places.{map-set}

@@ -10,9 +10,19 @@ use Rattle.laws.specs.Places.{upTo, down}
 use Rattle.chords.specs.Columns.{chordAt}
 use Rattle.voices.specs.declared.Choice.the-variants.{Free, Together, Cut}
 use Rattle.voices.specs.declared.Choice.{Choice}
-use Rattle.voices.specs.declared.Lasts.{Lasts}
+use Rattle.voices.specs.declared.Voices.{Voices}
 
 -- ---- choosing
+
+-- what is known of each voice: its last chord's start and end, both 0 while it is empty, and how many chords it has
+pub record Lasts : Type 0 where
+  pub starts : List ℕ
+  pub ends : List ℕ
+  pub lens : List ℕ
+
+-- the same from the code's three arrays
+abbrev pub lastsOf : List ℕ → List ℕ → List ℕ → Lasts
+lastsOf starts ends lens = record { starts = starts; ends = ends; lens = lens }
 
 -- a choice of the code as one of the rules
 abbrev pub asChoice : Choice → rules.Choice
@@ -84,7 +94,7 @@ pub record Placed (n k : ℕ) (l r : Lasts) (w w′ : List ℕ) : Type 0 where
   pub known : Known r (voicesAt n w′ (r .lens))
 
 -- the first m chords are placed
-pub record Spread (n m : ℕ) (r : Lasts) (w w′ : List ℕ) : Type 0 where
+pub record Spread (n m : ℕ) (r : Voices) (w w′ : List ℕ) : Type 0 where
   pub kept : length w′ ≡ length w
   pub voices : voicesAt n w′ (r .lens) ≡ foldl place noVoices (upTo (chordAt n w) m)
   pub cells : Cells n m (r .lens) w′

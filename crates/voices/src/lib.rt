@@ -11,19 +11,12 @@ ghost use Rattle.rules.specs.Voices.{Chord, Voice, choose, voices};
 ghost use Rattle.laws.specs.NoteWords.{NotesIn, InRange};
 ghost use Rattle.chords.specs.Columns.{chordAt, keysOf};
 ghost use Rattle.chords.specs.Steps.{Stored};
-ghost use Rattle.voices.specs.Placing.{asChoice, Known, numberAt, Next, Pushed, withKeys, endingAt, Placed, Spread};
+ghost use Rattle.voices.specs.Placing.{lastsOf, asChoice, Known, numberAt, Next, Pushed, withKeys, endingAt, Placed, Spread};
 ghost use Rattle.voices.specs.VoicesIn.{VoicesIn, Held};
 use chords::VoiceChord;
 
 // How many chords each voice has.
 pub struct Voices {
-    pub lens: [usize; 4],
-}
-
-// What is known of each voice: its last chord's start and end, both 0 while it is empty, and how many chords it has.
-pub struct Lasts {
-    pub starts: [u64; 4],
-    pub ends: [u64; 4],
     pub lens: [usize; 4],
 }
 
@@ -36,9 +29,11 @@ pub enum Choice {
 
 // ---- choosing
 
+// (The contracts ask that four elements lie behind a `&[u64; 4]`: a proof is not told that.)
+
 // The first voice that ends at start or before; 4 if none does.
-fn first_free(ends: [u64; 4], start: u64) -> usize
-    ensures { λ r. ⌜ r ≡ position (λ (e : ℕ). leb e start) ends ⌝ }
+fn first_free(ends: &[u64; 4], start: u64) -> usize
+    ensures { λ r. ⌜ (length (now (ends .entry)) ≡ 4 → r ≡ position (λ (e : ℕ). leb e start) (now (ends .entry))) ⌝ }
 {
     let mut v = 0;
     while v < 4 {
@@ -51,8 +46,8 @@ fn first_free(ends: [u64; 4], start: u64) -> usize
 }
 
 // The first voice whose last chord has the start; 4 if none has.
-fn first_together(starts: [u64; 4], start: u64) -> usize
-    ensures { λ r. ⌜ r ≡ position (λ (s : ℕ). eqb s start) starts ⌝ }
+fn first_together(starts: &[u64; 4], start: u64) -> usize
+    ensures { λ r. ⌜ (length (now (starts .entry)) ≡ 4 → r ≡ position (λ (s : ℕ). eqb s start) (now (starts .entry))) ⌝ }
 {
     let mut v = 0;
     while v < 4 {
@@ -65,8 +60,8 @@ fn first_together(starts: [u64; 4], start: u64) -> usize
 }
 
 // The voice that ends earliest, the lowest of several.
-fn earliest(ends: [u64; 4]) -> usize
-    ensures { λ r. ⌜ r ≡ position (λ (e : ℕ). every (leb e) ends) ends ⌝ }
+fn earliest(ends: &[u64; 4]) -> usize
+    ensures { λ r. ⌜ (length (now (ends .entry)) ≡ 4 → r ≡ position (λ (e : ℕ). every (leb e) (now (ends .entry))) (now (ends .entry))) ⌝ }
 {
     let mut best = 0;
     let mut v = 1;
@@ -80,15 +75,16 @@ fn earliest(ends: [u64; 4]) -> usize
 }
 
 // Chooses what becomes of a chord of this start.
-fn choose(lasts: Lasts, start: u64) -> Choice
-    ensures { λ r. ⌜ ((c : Chord) (vs : List Voice) → c .start ≡ start → Known lasts vs → asChoice r ≡ choose c vs) ⌝ }
+fn choose(starts: &[u64; 4], ends: &[u64; 4], start: u64) -> Choice
+    ensures { λ r. ⌜ ((c : Chord) (vs : List Voice) (lens : List ℕ)
+        → c .start ≡ start
+        → Known (lastsOf (now (starts .entry)) (now (ends .entry)) lens) vs
+        → asChoice r ≡ choose c vs) ⌝ }
 {
-    let ends = lasts.ends;
     let free = first_free(ends, start);
     if free < 4 {
         return Choice::Free(free);
     }
-    let starts = lasts.starts;
     let together = first_together(starts, start);
     if together < 4 {
         return Choice::Together(together);
@@ -99,26 +95,37 @@ fn choose(lasts: Lasts, start: u64) -> Choice
 // ---- placing
 
 // The number of the last chord of voice v.
-fn last_of(work: &[u64], n: usize, lasts: Lasts, v: usize) -> usize
-    requires { ⌜ (v < 4) × (16 * n ≤ length (now work)) × (0 < getD (lasts .lens) v 0) × (getD (lasts .lens) v 0 ≤ n) ⌝ }
-    ensures { λ r. ⌜ r ≡ numberAt n (now (work .entry)) v (getD (lasts .lens) v 0 - 1) ⌝ }
+fn last_of(work: &[u64], n: usize, lens: &[usize; 4], v: usize) -> usize
+    requires { ⌜ (v < 4) × (16 * n ≤ length (now work)) × (0 < getD (now lens) v 0) × (getD (now lens) v 0 ≤ n) ⌝ }
+    ensures { λ r. ⌜ r ≡ numberAt n (now (work .entry)) v (getD (now (lens .entry)) v 0 - 1) ⌝ }
 {
-    let len = lasts.lens[v];
+    let len = lens[v];
     work[(10 + v) * n + (len - 1)] as usize
 }
 
 // Chord k, from start to end, is the next of voice v.
-fn push(work: &mut [u64], n: usize, k: usize, lasts: Lasts, v: usize, start: u64, end: u64) -> Lasts
-    requires { ⌜ (v < 4) × (16 * n ≤ length (now work)) × (getD (lasts .lens) v 0 < n) ⌝ }
-    ensures { λ r. ⌜ Pushed n k v start end lasts r (now (work .entry)) (now (work .exit)) ⌝ }
+fn push(
+    work: &mut [u64],
+    n: usize,
+    k: usize,
+    starts: &mut [u64; 4],
+    ends: &mut [u64; 4],
+    lens: &mut [usize; 4],
+    v: usize,
+    start: u64,
+    end: u64,
+)
+    requires { ⌜ (v < 4) × (16 * n ≤ length (now work)) × (getD (now lens) v 0 < n) ⌝ }
+    ensures { λ _. ⌜ Pushed n k v start end
+        (lastsOf (now (starts .entry)) (now (ends .entry)) (now (lens .entry)))
+        (lastsOf (now (starts .exit)) (now (ends .exit)) (now (lens .exit)))
+        (now (work .entry)) (now (work .exit)) ⌝ }
 {
-    let mut l = lasts;
-    let len = l.lens[v];
+    let len = lens[v];
     work[(10 + v) * n + len] = k as u64;
-    l.starts[v] = start;
-    l.ends[v] = end;
-    l.lens[v] = len + 1;
-    l
+    starts[v] = start;
+    ends[v] = end;
+    lens[v] = len + 1;
 }
 
 // The chord at place i takes the keys of c, and not its mark.
@@ -156,42 +163,51 @@ fn cut_chord(work: &mut [u64], n: usize, i: usize, end: u64)
 }
 
 // Places chord k: in a free voice, as keys of a chord that starts together with it, or in the voice that is cut for it.
-fn place_chord(work: &mut [u64], n: usize, k: usize, lasts: Lasts) -> Lasts
-    requires { ⌜ Next n k lasts (now work) ⌝ }
-    ensures { λ r. ⌜ Placed n k lasts r (now (work .entry)) (now (work .exit)) ⌝ }
+// The arrays have each voice's last start and end, both 0 while it is empty, and how many chords it has. They are written in place,
+// since a copy right after a store is slow.
+fn place_chord(
+    work: &mut [u64],
+    n: usize,
+    k: usize,
+    starts: &mut [u64; 4],
+    ends: &mut [u64; 4],
+    lens: &mut [usize; 4],
+)
+    requires { ⌜ Next n k (lastsOf (now starts) (now ends) (now lens)) (now work) ⌝ }
+    ensures { λ _. ⌜ Placed n k
+        (lastsOf (now (starts .entry)) (now (ends .entry)) (now (lens .entry)))
+        (lastsOf (now (starts .exit)) (now (ends .exit)) (now (lens .exit)))
+        (now (work .entry)) (now (work .exit)) ⌝ }
 {
     let c = chords::chord_at(work, n, k);
-    match choose(lasts, c.start) {
-        Choice::Free(v) => push(work, n, k, lasts, v, c.start, c.end),
+    match choose(starts, ends, c.start) {
+        Choice::Free(v) => push(work, n, k, starts, ends, lens, v, c.start, c.end),
         Choice::Together(v) => {
-            let i = last_of(work, n, lasts, v);
+            let i = last_of(work, n, lens, v);
             give_keys(work, n, i, c);
-            lasts
         }
         Choice::Cut(v) => {
-            let i = last_of(work, n, lasts, v);
+            let i = last_of(work, n, lens, v);
             cut_chord(work, n, i, c.start);
-            push(work, n, k, lasts, v, c.start, c.end)
+            push(work, n, k, starts, ends, lens, v, c.start, c.end);
         }
     }
 }
 
 // Places the first m chords.
-fn place_chords(work: &mut [u64], n: usize, m: usize) -> Lasts
+fn place_chords(work: &mut [u64], n: usize, m: usize) -> Voices
     requires { ⌜ (16 * n ≤ length (now work)) × (m ≤ n) ⌝ }
     ensures { λ r. ⌜ Spread n m r (now (work .entry)) (now (work .exit)) ⌝ }
 {
-    let mut lasts = Lasts {
-        starts: [0; 4],
-        ends: [0; 4],
-        lens: [0; 4],
-    };
+    let mut starts = [0u64; 4];
+    let mut ends = [0u64; 4];
+    let mut lens = [0usize; 4];
     let mut k = 0;
     while k < m {
-        lasts = place_chord(work, n, k, lasts);
+        place_chord(work, n, k, &mut starts, &mut ends, &mut lens);
         k += 1;
     }
-    lasts
+    Voices { lens }
 }
 
 // Spreads the notes that stand in columns 0 and 1, snapped to the grid g, over four voices of chords.
@@ -202,7 +218,5 @@ pub fn assign_voices(work: &mut [u64], n: usize, count: usize, g: u64) -> Voices
 {
     chords::snap_notes(work, n, count, g);
     let m = chords::gather_chords(work, n, count);
-    let lasts = place_chords(work, n, m);
-    let lens = lasts.lens;
-    Voices { lens }
+    place_chords(work, n, m)
 }

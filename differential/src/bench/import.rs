@@ -42,6 +42,10 @@ impl Import {
         }
     }
 
+    pub fn head(&self) {
+        assert_eq!(library::head(&self.given).number, 0);
+    }
+
     pub fn bars(&mut self) {
         let [starts, marks] = &mut self.bars;
         assert_eq!(library::bars(&self.given, starts, marks).number, 0);
@@ -97,7 +101,7 @@ impl Import {
 
     /// Heads, bars, each part's staff and automation, diagnostics; each part's size is asked first if `sized`.
     pub fn all(&mut self, sized: bool) {
-        assert_eq!(library::head(&self.given).number, 0);
+        self.head();
         assert_eq!(library::part_count(&self.given).count, self.parts);
         self.bars();
         for part in 0..self.parts {
@@ -109,5 +113,11 @@ impl Import {
             self.automation(part);
         }
         self.diagnostics();
+    }
+
+    /// How many calls `all` makes.
+    pub fn calls(&self, sized: bool) -> usize {
+        let each = if sized { 4 } else { 3 };
+        4 + each * self.parts as usize
     }
 }

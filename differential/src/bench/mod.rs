@@ -1,14 +1,18 @@
 //! Times of the library beside the reference's on the same pieces.
 
 mod import;
+mod imports;
 mod pieces;
 mod readings;
+mod real;
+mod row;
 
+use crate::clock::timed;
+use crate::piece::Piece;
 use crate::reference::times;
-use crate::{compare, piece::Piece};
 use import::Import;
+pub use imports::compared;
 use pieces::Kind;
-use std::hint::black_box;
 use std::time::{Duration, Instant};
 
 const KINDS: [Kind; 4] = [Kind::Notes, Kind::Overlaps, Kind::Controllers, Kind::Tempos];
@@ -16,24 +20,16 @@ const EVENTS: [usize; 2] = [100_000, 500_000];
 const PARTS: [usize; 2] = [1, 16];
 
 /// The least of some runs, in milliseconds. Where more than one is asked for, short ones go on for a quarter of a second.
-fn shortest(runs: usize, mut run: impl FnMut() -> Duration) -> f64 {
+fn shortest(runs: usize, mut run: impl FnMut() -> f64) -> f64 {
     let begun = Instant::now();
     let mut times = Vec::new();
     while times.len() < runs || runs > 1 && times.len() < 100 && begun.elapsed() < GOING_ON {
-        times.push(run().as_secs_f64() * 1000.0);
+        times.push(run());
     }
     times.into_iter().fold(f64::INFINITY, f64::min)
 }
 
 const GOING_ON: Duration = Duration::from_millis(250);
-
-fn timed<T>(run: impl FnOnce() -> T) -> Duration {
-    let begun = Instant::now();
-    let answer = run();
-    let time = begun.elapsed();
-    black_box(answer);
-    time
-}
 
 /// The reference looks at every bar for every tempo change of every part: one run of those is enough.
 fn runs(kind: Kind) -> usize {
@@ -44,8 +40,9 @@ fn runs(kind: Kind) -> usize {
 }
 
 const ABOUT: &str = "\
-Pieces of 10,000 bars of 4/4 at 480 ticks per quarter, events over all of it, one held note in each part. Milliseconds,
-the shortest of five runs or more, for a quarter of a second; the reference's bars and imports of tempos are run once. Freeing what it answers is not timed.
+Pieces of 10,000 bars of 4/4 at 480 ticks per quarter, events over all of it, one held note in each part. Milliseconds of
+the thread's own CPU time, the shortest of five runs or more, for a quarter of a second; the reference's bars of tempos are
+run once. Freeing what it answers is not timed.
 Library: whole calls from the piece's arrays, admission included; arrays lent once, before the time runs.
 Reference: the file as the stand-in parses it is given, but for diagnostics and imports.
 ns/event is the library's; ratio is the first time over the second, library over reference.";
@@ -57,7 +54,7 @@ const TABLES: [(&str, fn()); 6] = [
     ("readings", readings::table),
     ("automation", automation),
     ("diagnostics", diagnostics),
-    ("imports", imports),
+    ("imports", imports::table),
 ];
 
 /// All tables, or those that are named.
@@ -107,7 +104,7 @@ fn bars() {
         |kind, piece| {
             let mut import = Import::of(piece);
             [
-                shortest(5, || timed(|| import.bars())),
+                shortest(5, || timed(|| import.bars()).0),
                 shortest(runs(kind), || times::bars(piece)),
             ]
         },
@@ -128,11 +125,11 @@ fn staffs() {
         |_, piece| {
             let mut import = Import::of(piece);
             let mut alone = f64::INFINITY;
-            let ours = shortest(5, || timed(|| import.engrave(0)));
-            let size = shortest(5, || timed(|| import.staff_size(0)));
+            let ours = shortest(5, || timed(|| import.engrave(0)).0);
+            let size = shortest(5, || timed(|| import.staff_size(0)).0);
             let theirs = shortest(5, || {
                 let (whole, transcribe) = times::staff(piece, 0);
-                alone = alone.min(transcribe.as_secs_f64() * 1000.0);
+                alone = alone.min(transcribe);
                 whole
             });
             [ours, theirs, size, alone]
@@ -148,7 +145,7 @@ fn automation() {
         |_, piece| {
             let mut import = Import::of(piece);
             [
-                shortest(5, || timed(|| import.automation(0))),
+                shortest(5, || timed(|| import.automation(0)).0),
                 shortest(5, || times::automation(piece)),
             ]
         },
@@ -163,49 +160,10 @@ fn diagnostics() {
         |_, piece| {
             let mut import = Import::of(piece);
             [
-                shortest(5, || timed(|| import.diagnostics())),
+                shortest(5, || timed(|| import.diagnostics()).0),
                 shortest(5, || times::diagnostics(piece)),
                 shortest(5, || times::parse(piece)),
             ]
         },
     );
-}
-
-fn imports() {
-    table(
-        "import: heads, bars, every part's staff and automation, diagnostics. Reference: `parse_midi` and \
-         `loss_diagnostics`, each of which parses; then the library where it is asked every staff's size first, and \
-         parsing twice alone",
-        [
-            "library",
-            "reference",
-            "library with sizes",
-            "parsing twice",
-        ],
-        &PARTS,
-        |kind, piece| {
-            let mut import = Import::of(piece);
-            [
-                shortest(5, || timed(|| import.all(false))),
-                shortest(runs(kind), || times::import(piece)),
-                shortest(5, || timed(|| import.all(true))),
-                shortest(5, || times::parse(piece) * 2),
-            ]
-        },
-    );
-}
-
-/// The two compared on the pieces of the benchmark.
-pub fn compared() -> Result<(), String> {
-    for kind in KINDS {
-        for parts in PARTS {
-            for events in EVENTS {
-                let name = format!("{}, {parts} parts, {events} events", kind.name());
-                compare::piece(&kind.piece(events, parts))
-                    .map_err(|what| format!("{name}: {what}"))?;
-                println!("agree: {name}");
-            }
-        }
-    }
-    Ok(())
 }

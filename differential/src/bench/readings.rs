@@ -1,7 +1,8 @@
 //! Times of proof-reading beside engraving.
 
 use super::import::Import;
-use super::{EVENTS, KINDS, PARTS, shortest, timed};
+use super::{EVENTS, KINDS, PARTS, shortest};
+use crate::clock::timed;
 use crate::piece::Piece;
 
 const ABOUT: &str = "\
@@ -50,8 +51,8 @@ pub fn table() {
 /// The items of part 0, and the times of its engraving and its reading.
 fn times(piece: &Piece) -> (usize, [f64; 2]) {
     let mut import = Import::of(piece);
-    let engrave = shortest(5, || timed(|| import.engrave(0)));
+    let engrave = shortest(5, || timed(|| import.engrave(0)).0);
     let (staff, items) = import.staff(0);
-    let read = shortest(5, || timed(|| import.proof_read(0, &staff)));
+    let read = shortest(5, || timed(|| import.proof_read(0, &staff)).0);
     (items, [engrave, read])
 }

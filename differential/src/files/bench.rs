@@ -4,6 +4,7 @@ use super::entries::{Entries, Outputs, PieceSize, SCANNER};
 use super::large::TIMED;
 use super::reader::MOST_EVENTS;
 use super::real;
+use crate::clock;
 use crate::lent::Lent;
 use std::time::{Duration, Instant};
 
@@ -23,32 +24,6 @@ const BY_CHANCE: &str = "by chance";
 
 const LEAST_RUNS: usize = 7;
 const GOING_ON: Duration = Duration::from_millis(500);
-
-#[repr(C)]
-struct Time {
-    seconds: i64,
-    nanoseconds: i64,
-}
-
-unsafe extern "C" {
-    fn clock_gettime(clock: i32, time: *mut Time) -> i32;
-}
-
-/// CLOCK_THREAD_CPUTIME_ID of Linux.
-const THREAD: i32 = 3;
-
-/// The thread's CPU time in milliseconds.
-fn now() -> f64 {
-    let (seconds, nanoseconds) = (0, 0);
-    let mut time = Time {
-        seconds,
-        nanoseconds,
-    };
-    // The clock writes one time there.
-    let failed = unsafe { clock_gettime(THREAD, &mut time) };
-    assert_eq!(failed, 0, "no such clock");
-    time.seconds as f64 * 1e3 + time.nanoseconds as f64 / 1e6
-}
 
 /// A row: one file, or several that are read one after the other.
 struct Row {
@@ -143,11 +118,12 @@ fn timed(readers: &[Entries], row: &Row, outputs: &mut Outputs) -> Vec<[f64; 2]>
 }
 
 fn run(files: &[Lent<u8>], mut call: impl FnMut(&Lent<u8>) -> PieceSize) -> f64 {
-    let begun = now();
-    for file in files {
-        assert_ne!(std::hint::black_box(call(file)).number, 8);
-    }
-    now() - begun
+    let all = || {
+        for file in files {
+            assert_ne!(std::hint::black_box(call(file)).number, 8);
+        }
+    };
+    clock::timed(all).0
 }
 
 fn titles(readers: &[Entries]) {

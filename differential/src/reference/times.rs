@@ -1,4 +1,5 @@
-//! How long the reference takes. What it makes is freed after the time is taken.
+//! How long the reference takes, in milliseconds of the thread's own CPU time. What it makes is freed after the time is
+//! taken.
 
 use super::transcribe::{MidiBar, apply_bar_changes, transcribe_track};
 use super::{
@@ -6,36 +7,29 @@ use super::{
     collect_meta_changes, collect_pitch_bends, collect_program_changes, collect_raw_notes,
     midi_to_pitch, recognized_auxiliary_channels, steps,
 };
+use crate::clock::timed;
 use crate::piece::Piece;
 use acorde_core::{Measure, TimeSignature};
 use midly::Smf;
-use std::hint::black_box;
-use std::time::{Duration, Instant};
 
 fn record(piece: &Piece) -> Vec<u8> {
     midly::record(&piece.sizes, &piece.deltas, &piece.words)
 }
 
-fn timed<T>(run: impl FnOnce() -> T) -> (Duration, T) {
-    let begun = Instant::now();
-    let made = black_box(run());
-    (begun.elapsed(), made)
-}
-
 /// What the file parser takes for a piece.
-pub fn parse(piece: &Piece) -> Duration {
+pub fn parse(piece: &Piece) -> f64 {
     let bytes = record(piece);
     timed(|| Smf::parse(&bytes).expect("a record is read")).0
 }
 
 /// The import and the loss report.
-pub fn import(piece: &Piece) -> Duration {
+pub fn import(piece: &Piece) -> f64 {
     let bytes = record(piece);
     timed(|| (super::parse_midi(&bytes), super::loss_diagnostics(&bytes))).0
 }
 
 /// The bars and their marks alone, the parsed file given.
-pub fn bars(piece: &Piece) -> Duration {
+pub fn bars(piece: &Piece) -> f64 {
     let bytes = record(piece);
     let smf = Smf::parse(&bytes).expect("a record is read");
     let made = timed(|| {
@@ -49,7 +43,7 @@ pub fn bars(piece: &Piece) -> Duration {
 }
 
 /// One part's staff, the parsed file given; and `transcribe_track` alone.
-pub fn staff(piece: &Piece, part: usize) -> (Duration, Duration) {
+pub fn staff(piece: &Piece, part: usize) -> (f64, f64) {
     let bytes = record(piece);
     let smf = Smf::parse(&bytes).expect("a record is read");
     let quarter = steps::ticks_per_quarter(&smf);
@@ -59,7 +53,7 @@ pub fn staff(piece: &Piece, part: usize) -> (Duration, Duration) {
 }
 
 /// The automation of the first part, the parsed file given: its notes are collected too, since they make it a part.
-pub fn automation(piece: &Piece) -> Duration {
+pub fn automation(piece: &Piece) -> f64 {
     let bytes = record(piece);
     let smf = Smf::parse(&bytes).expect("a record is read");
     let quarter = steps::ticks_per_quarter(&smf);
@@ -83,7 +77,7 @@ pub fn automation(piece: &Piece) -> Duration {
 }
 
 /// The loss report, which parses the file.
-pub fn diagnostics(piece: &Piece) -> Duration {
+pub fn diagnostics(piece: &Piece) -> f64 {
     let bytes = record(piece);
     timed(|| super::loss_diagnostics(&bytes)).0
 }

@@ -39,6 +39,7 @@ collect-automation-requires c κs =
       drops = at-count .before .recognized-auxiliary-channels .ensures;
       positive = start .pre .1;
       small = start .pre .2;
+      counted = counts;
       ticks = omega (arith, ticks-total counts (start .args .p), at-if2 .before .if1 .left);
       words = omega (arith, words-total counts (start .args .p), at-if2 .if2 .left);
     }

@@ -68,10 +68,10 @@ same-length c =
     let c₂ = at-out2 .before .before .before in
     let at-out = c₂ .before .before .before .before in
     let c₁ = at-out .before .before .before in
-    c₄ .collect-kind4 .kept .1 .1 .1 .1 .0
-    ∙ c₃ .collect-kind3 .kept .1 .1 .1 .1 .0
-    ∙ c₂ .collect-kind2 .kept .1 .1 .1 .1 .0
-    ∙ c₁ .collect-kind .kept .1 .1 .1 .1 .0
+    c₄ .collect-kind4 .kept .1 .1 .1 .1 .1 .0
+    ∙ c₃ .collect-kind3 .kept .1 .1 .1 .1 .1 .0
+    ∙ c₂ .collect-kind2 .kept .1 .1 .1 .1 .1 .0
+    ∙ c₁ .collect-kind .kept .1 .1 .1 .1 .1 .0
 
 same-length-2 : tie.Need-same-length-2
 same-length-2 c =
@@ -82,10 +82,10 @@ same-length-2 c =
     let c₂ = at-out2 .before .before .before in
     let at-out = c₂ .before .before .before .before in
     let c₁ = at-out .before .before .before in
-    c₄ .collect-kind4 .kept .1 .1 .1 .1 .1 .0
-    ∙ c₃ .collect-kind3 .kept .1 .1 .1 .1 .1 .0
-    ∙ c₂ .collect-kind2 .kept .1 .1 .1 .1 .1 .0
-    ∙ c₁ .collect-kind .kept .1 .1 .1 .1 .1 .0
+    c₄ .collect-kind4 .kept .1 .1 .1 .1 .1 .1 .0
+    ∙ c₃ .collect-kind3 .kept .1 .1 .1 .1 .1 .1 .0
+    ∙ c₂ .collect-kind2 .kept .1 .1 .1 .1 .1 .1 .0
+    ∙ c₁ .collect-kind .kept .1 .1 .1 .1 .1 .1 .0
 
 returns : tie.Need-returns
 returns c =

@@ -28,7 +28,7 @@ admitted c = part-admitted _ _ (c .before .before .open-part .ensures) (c .if1 .
 
 -- there is room for work
 enough : (c : tie.Else2)
-    → workFor (c .before .before .before .before .open-part .result .most) ≤ length (start (c .before .before .before .before) .args .work .now)
+    → workFor (c .before .before .most-notes .result) ≤ length (start (c .before .before .before .before .before) .args .work .now)
 enough c = rw (c .before .work-for .ensures) at (c .if2 .left)
 
 returns : tie.Need-returns
@@ -42,15 +42,19 @@ returns c =
       work = at-clear .clear .ensures;
     }
 
+most-notes-requires : tie.Need-most-notes-requires
+most-notes-requires c κs = admitted c .sizes
+
 work-for-requires : tie.Need-work-for-requires
-work-for-requires c κs = few-notes _ (admitted c) (c .before .before .open-part .ensures .most (c .if1 .left))
+work-for-requires c κs = few-notes _ (admitted (c .before)) (c .most-notes .ensures)
 
 returns-2 : tie.Need-returns-2
 returns-2 c =
     let at-clear = c .before .before in
     let at-short = at-clear .before .before in
     let at-work = at-short .before in
-    let at-else = at-work .before in
+    let at-most = at-work .before in
+    let at-else = at-most .before in
     let at-open = at-else .before .before in
     let s = start at-open in
     let opened = at-open .open-part .ensures in
@@ -58,19 +62,19 @@ returns-2 c =
     record {
       answered =
           sym
-          (work-short (given s) (partRefusals (given s) (s .args .part)) (part-passes _ _ opened z) (at-open .open-part .result .most)
-          (length (s .args .work .now)) (opened .most z) _ _ (rw (at-work .work-for .ensures) at (at-short .if2 .taken)));
+          (work-short (given s) (partRefusals (given s) (s .args .part)) (part-passes _ _ opened z) (at-most .most-notes .result)
+          (length (s .args .work .now)) (at-most .most-notes .ensures) _ _ (rw (at-work .work-for .ensures) at (at-short .if2 .taken)));
       work = at-clear .clear2 .ensures;
     }
 
 cut-requires : tie.Need-cut-requires
 cut-requires c κs =
-    let at-else = c .before .before in
+    let at-else = c .before .before .before in
     cut-deltas (at-else .before .before .open-part .ensures .own (at-else .if1 .left))
 
 cut-requires-2 : tie.Need-cut-requires-2
 cut-requires-2 c κs =
-    let at-else = c .before .before .before in
+    let at-else = c .before .before .before .before in
     cut-words (at-else .before .before .open-part .ensures .own (at-else .if1 .left))
 
 collect-raw-notes-requires : tie.Need-collect-raw-notes-requires
@@ -78,16 +82,17 @@ collect-raw-notes-requires c κs =
     let at-words = c .before in
     let at-deltas = at-words .before in
     let at-room = at-deltas .before in
-    let at-else = at-room .before .before in
+    let at-most = at-room .before .before in
+    let at-else = at-most .before in
     let opened = at-else .before .before .open-part .ensures in
     let z = at-else .if1 .left in
     let room = enough at-room in
-    rw (at-deltas .cut .ensures, at-words .cut2 .ensures) (own-track _ _ opened z, few-ons _ _ opened z, omega arith)
+    rw (at-deltas .cut .ensures, at-words .cut2 .ensures) (own-track _ _ opened z, few-ons _ _ opened z (at-most .most-notes .ensures), omega arith)
 
 bar-source-requires : tie.Need-bar-source-requires
 bar-source-requires c κs =
     let at-collect = c .before .before in
-    admitted (at-collect .before .before .before .before .before .before)
+    admitted (at-collect .before .before .before .before .before .before .before)
 
 grid-of-requires : tie.Need-grid-of-requires
 grid-of-requires c κs =
@@ -109,7 +114,8 @@ read-part-requires c κs =
     let at-source = at-grid .before .before in
     let at-collect = at-source .before .before .before in
     let at-room = at-collect .before .before .before .before in
-    let at-else = at-room .before .before in
+    let at-most = at-room .before .before in
+    let at-else = at-most .before in
     let s = start (at-else .before .before) in
     let source = at-source .bar-source .ensures in
     let room = enough at-room in
@@ -117,7 +123,7 @@ read-part-requires c κs =
       walked (given s) (admitted at-else) source,
       positive (given s) (admitted at-else) source,
       omega arith,
-      readable (given s) (s .args .part) (at-else .before .before .open-part .ensures) (at-else .if1 .left) source
+      readable (given s) (s .args .part) (at-else .before .before .open-part .ensures) (at-else .if1 .left) source (at-most .most-notes .ensures)
           (rw (at-collect .before .before .before .cut .ensures, at-collect .before .before .cut2 .ensures) at (at-collect .collect-raw-notes .ensures))
           (at-grid .grid-of .ensures) (omega (arith, at-collect .collect-raw-notes .kept .1 .1 .0)),
     )
@@ -132,11 +138,13 @@ returns-3 c =
     let at-source = at-grid .before .before in
     let at-collect = at-source .before .before .before in
     let at-room = at-collect .before .before .before .before in
-    let at-else = at-room .before .before in
+    let at-most = at-room .before .before in
+    let at-else = at-most .before in
     let s = start (at-else .before .before) in
     record {
       answered =
           reading-given (given s) (s .args .part) (at-else .before .before .open-part .ensures) (at-else .if1 .left) (at-source .bar-source .ensures)
+          (at-most .most-notes .ensures)
           (rw (at-collect .before .before .before .cut .ensures, at-collect .before .before .cut2 .ensures) at (at-collect .collect-raw-notes .ensures))
           (at-grid .grid-of .ensures) (record { counts = s .args .counts .now; heads = s .args .heads .now; keys = s .args .keys .now })
           (length (s .args .work .now)) (enough at-room)
@@ -154,6 +162,7 @@ proof-read-spec =
     (λ c κs. search needs)
     (λ c. search needs)
     returns
+    most-notes-requires
     work-for-requires
     (λ c κs. search needs)
     (λ c. search needs)

@@ -5,18 +5,19 @@ use native.Mathlib.Omega.{arith}
 use borrow.Author.Needs.{needs}
 use Rattle.bar_walk.proofs.WalkLaws.{walking-sane, walking-ready}
 use Rattle.items.specs.Writing.{quarter}
+use Rattle.staff.specs.Bars.{engraving}
 use Rattle.staff.proofs.StaffWalk.{Onward, onward-start, onward-counts, onward-heads, onward-keys, onward-end-soon}
 use Rattle.staff.proofs.StaffWalk.{onward-can, onward-more, onward-last, onward-end}
 use Rattle.staff.proofs.transcribe_track.Statement.{statement}
 use Rattle.staff.proofs.transcribe_track.Tie as tie
 
 abbrev Inv-loop : tie.InvT-loop
-Inv-loop write values deltas words end max-bars work n lens counts₀ heads₀ keys₀ w₀ s₀ counts heads keys w s =
-    Onward write deltas words end max-bars (quarter values) n work lens counts₀ heads₀ keys₀ counts heads keys w s
+Inv-loop write values deltas words end max-bars work n lens counts₀ heads₀ keys₀ w₀ bars₀ items₀ nexts₀ counts heads keys w bars items nexts =
+    Onward write deltas words end max-bars (quarter values) n work lens counts₀ heads₀ keys₀ counts heads keys w (engraving bars items nexts)
 
 abbrev μ-loop : tie.MeasureT-loop
-μ-loop write values deltas words end max-bars work n lens counts₀ heads₀ keys₀ w₀ s₀ counts heads keys w s =
-    max-bars - s .bars
+μ-loop write values deltas words end max-bars work n lens counts₀ heads₀ keys₀ w₀ bars₀ items₀ nexts₀ counts heads keys w bars items nexts =
+    max-bars - bars
 
 first-bar-requires : tie.Need-first-bar-requires Inv-loop μ-loop
 first-bar-requires c κs =
@@ -34,35 +35,42 @@ start-of-loop c =
 
 length-requires : tie.Need-length-requires Inv-loop μ-loop
 length-requires c κs =
-    let at-loop = c .before .before in
+    let at-loop = c .before in
     let at-start = start-of-loop at-loop in
     walking-sane (at-loop .loop .inv .walking) (at-start .pre .1 .ticks)
 
 -- the bar ends in range
-ends : (c : tie.After-length Inv-loop μ-loop) → c .before .before .before .loop .w .start + c .length .result < 2 ^ 49
+ends : (c : tie.After-length Inv-loop μ-loop) → c .before .before .loop .w .start + c .length .result < 2 ^ 49
 ends c =
-    let at-loop = c .before .before .before in
+    let at-loop = c .before .before in
     let at-start = start-of-loop at-loop in
     let pre = at-start .pre in
     rw (c .length .ensures) (onward-end-soon _ _ _ _ _ _ _ _ _ _ _ _ (pre .4) (pre .3) (pre .1 .ticks) (at-loop .loop .inv))
 
 push-bar-requires : tie.Need-push-bar-requires Inv-loop μ-loop
 push-bar-requires c κs =
-    let at-length = c .before .before .before .before in
-    let at-loop = at-length .before .before .before in
+    let at-length = c .before .before .before .before .before in
+    let at-loop = at-length .before .before in
     let at-start = start-of-loop at-loop in
     let pre = at-start .pre in (
       pre .0,
       pre .3,
       rw (at-length .length .ensures)
-          (onward-can _ _ _ _ _ _ _ _ _ _ _ _ (pre .4) (pre .3) (pre .1 .ticks) (at-loop .loop .inv) (at-length .before .if1 .taken) (pre .2)),
+          (onward-can _ _ _ _ _ _ _ _ _ _ _ _ (pre .4) (pre .3) (pre .1 .ticks) (at-loop .loop .inv) (at-length .before .loop-test .taken) (pre .2)),
     )
+
+add-bars : tie.Need-add-bars Inv-loop μ-loop
+add-bars c =
+    let at-counts = c .before .before .before .before .before in
+    let at-loop-test = at-counts .before .before .before .before .before .before .before .before in
+    let at-start = start-of-loop (at-loop-test .before) in
+    omega (arith, at-loop-test .loop-test .taken, at-start .pre .2)
 
 next-bar-requires : tie.Need-next-bar-requires Inv-loop μ-loop
 next-bar-requires c κs =
     let at-counts = c .before .before .before .before .before in
-    let at-length = at-counts .before .before .before .before .before .before in
-    let at-loop = at-length .before .before .before in
+    let at-length = at-counts .before .before .before .before .before .before .before in
+    let at-loop = at-length .before .before in
     let at-start = start-of-loop at-loop in
     walking-sane (at-loop .loop .inv .walking) (at-start .pre .1 .ticks)
 
@@ -70,43 +78,43 @@ same-length : tie.Need-same-length Inv-loop μ-loop
 same-length c =
     let at-keys = c .before .before .before .before in
     let at-push-bar = at-keys .before .before .before .before .before in
-    let at-length = at-push-bar .before .before .before .before .before in
-    let at-loop = at-length .before .before .before in
+    let at-length = at-push-bar .before .before .before .before .before .before in
+    let at-loop = at-length .before .before in
     let at-start = start-of-loop at-loop in
     let pre = at-start .pre in
-    at-push-bar .push-bar .kept .1 .1 .1 .1 .1 .1 .1 .0 ∙ onward-counts _ _ _ _ _ _ _ _ _ _ _ _ (pre .4) (pre .3) (pre .1 .ticks) (at-loop .loop .inv)
+    at-push-bar .push-bar .kept .1 .1 .1 .1 .1 .1 .1 .1 .1 .0 ∙ onward-counts _ _ _ _ _ _ _ _ _ _ _ _ (pre .4) (pre .3) (pre .1 .ticks) (at-loop .loop .inv)
 
 same-length-2 : tie.Need-same-length-2 Inv-loop μ-loop
 same-length-2 c =
     let at-keys = c .before .before .before .before in
     let at-push-bar = at-keys .before .before .before .before .before in
-    let at-length = at-push-bar .before .before .before .before .before in
-    let at-loop = at-length .before .before .before in
+    let at-length = at-push-bar .before .before .before .before .before .before in
+    let at-loop = at-length .before .before in
     let at-start = start-of-loop at-loop in
     let pre = at-start .pre in
-    at-push-bar .push-bar .kept .1 .1 .1 .1 .1 .1 .1 .1 .0 ∙ onward-heads _ _ _ _ _ _ _ _ _ _ _ _ (pre .4) (pre .3) (pre .1 .ticks) (at-loop .loop .inv)
+    at-push-bar .push-bar .kept .1 .1 .1 .1 .1 .1 .1 .1 .1 .1 .0 ∙ onward-heads _ _ _ _ _ _ _ _ _ _ _ _ (pre .4) (pre .3) (pre .1 .ticks) (at-loop .loop .inv)
 
 same-length-3 : tie.Need-same-length-3 Inv-loop μ-loop
 same-length-3 c =
     let at-keys = c .before .before .before .before in
     let at-push-bar = at-keys .before .before .before .before .before in
-    let at-length = at-push-bar .before .before .before .before .before in
-    let at-loop = at-length .before .before .before in
+    let at-length = at-push-bar .before .before .before .before .before .before in
+    let at-loop = at-length .before .before in
     let at-start = start-of-loop at-loop in
     let pre = at-start .pre in
-    at-push-bar .push-bar .kept .1 .1 .1 .1 .1 .1 .1 .1 .1 .0 ∙ onward-keys _ _ _ _ _ _ _ _ _ _ _ _ (pre .4) (pre .3) (pre .1 .ticks) (at-loop .loop .inv)
+    at-push-bar .push-bar .kept .1 .1 .1 .1 .1 .1 .1 .1 .1 .1 .1 .0 ∙ onward-keys _ _ _ _ _ _ _ _ _ _ _ _ (pre .4) (pre .3) (pre .1 .ticks) (at-loop .loop .inv)
 
 returns : tie.Need-returns Inv-loop μ-loop
 returns c =
     let at-keys = c .before .before .before .before in
     let at-push-bar = at-keys .before .before .before .before .before in
-    let at-length = at-push-bar .before .before .before .before .before in
-    let at-loop = at-length .before .before .before in
+    let at-length = at-push-bar .before .before .before .before .before .before in
+    let at-loop = at-length .before .before in
     let at-start = start-of-loop at-loop in
     let pre = at-start .pre in
     let put = rw (at-length .length .ensures) at (at-push-bar .push-bar .ensures) in
-    let last = rw (c .before .before .next-bar .ensures) at (c .if2 .taken) in
-    onward-last _ _ _ _ _ _ _ _ _ _ _ _ (pre .4) (pre .3) (pre .1 .ticks) (at-loop .loop .inv) (at-length .before .if1 .taken) put last
+    let last = rw (c .before .before .next-bar .ensures) at (c .if1 .taken) in
+    onward-last _ _ _ _ _ _ _ _ _ _ _ _ (pre .4) (pre .3) (pre .1 .ticks) (at-loop .loop .inv) (at-length .before .loop-test .taken) put last
 
 take-changes-requires : tie.Need-take-changes-requires Inv-loop μ-loop
 take-changes-requires c κs =
@@ -116,58 +124,58 @@ take-changes-requires c κs =
     let at-loop = at-push-bar-arg2 .before .before .before .before .before .before in
     let at-start = start-of-loop at-loop in
     let pre = at-start .pre in
-    let more = rw (at-next-bar .next-bar .ensures) at (c .if2 .left) in
+    let more = rw (at-next-bar .next-bar .ensures) at (c .if1 .left) in
     rw (at-next-bar .next-bar .ensures) (walking-ready (at-loop .loop .inv .walking) (pre .1 .track) _ (pre .1 .end-fits) more)
 
 loop-again : tie.Need-loop-again Inv-loop μ-loop
 loop-again c =
     let at-keys = c .before .before .before .before .before in
     let at-push-bar = at-keys .before .before .before .before .before in
-    let at-length = at-push-bar .before .before .before .before .before in
-    let at-loop = at-length .before .before .before in
+    let at-length = at-push-bar .before .before .before .before .before .before in
+    let at-loop = at-length .before .before in
     let at-start = start-of-loop at-loop in
     let pre = at-start .pre in
     let put = rw (at-length .length .ensures) at (at-push-bar .push-bar .ensures) in
     let next = c .before .before .before .next-bar .ensures in
-    let more = rw next at (c .before .if2 .left) in
+    let more = rw next at (c .before .if1 .left) in
     let settled = rw next at (c .take-changes .ensures) in
-    onward-more _ _ _ _ _ _ _ _ _ _ _ _ (pre .4) (pre .3) (pre .1 .ticks) (at-loop .loop .inv) (at-length .before .if1 .taken) put settled
+    onward-more _ _ _ _ _ _ _ _ _ _ _ _ (pre .4) (pre .3) (pre .1 .ticks) (at-loop .loop .inv) (at-length .before .loop-test .taken) put settled
     (pre .1 .end-fits) more
 
 same-length-4 : tie.Need-same-length-4 Inv-loop μ-loop
 same-length-4 c =
-    let at-loop = c .before .before in
+    let at-loop = c .before in
     let at-start = start-of-loop at-loop in
     let pre = at-start .pre in
     onward-counts _ _ _ _ _ _ _ _ _ _ _ _ (pre .4) (pre .3) (pre .1 .ticks) (at-loop .loop .inv)
 
 same-length-5 : tie.Need-same-length-5 Inv-loop μ-loop
 same-length-5 c =
-    let at-loop = c .before .before in
+    let at-loop = c .before in
     let at-start = start-of-loop at-loop in
     let pre = at-start .pre in
     onward-heads _ _ _ _ _ _ _ _ _ _ _ _ (pre .4) (pre .3) (pre .1 .ticks) (at-loop .loop .inv)
 
 same-length-6 : tie.Need-same-length-6 Inv-loop μ-loop
 same-length-6 c =
-    let at-loop = c .before .before in
+    let at-loop = c .before in
     let at-start = start-of-loop at-loop in
     let pre = at-start .pre in
     onward-keys _ _ _ _ _ _ _ _ _ _ _ _ (pre .4) (pre .3) (pre .1 .ticks) (at-loop .loop .inv)
 
 returns-2 : tie.Need-returns-2 Inv-loop μ-loop
 returns-2 c =
-    let at-loop = c .before .before in
+    let at-loop = c .before in
     let at-start = start-of-loop at-loop in
     let pre = at-start .pre in
-    onward-end _ _ _ _ _ _ _ _ _ _ _ _ (pre .4) (pre .3) (pre .1 .ticks) (at-loop .loop .inv) (c .if1 .left)
+    onward-end _ _ _ _ _ _ _ _ _ _ _ _ (pre .4) (pre .3) (pre .1 .ticks) (at-loop .loop .inv) (c .loop-test .left)
 
 loop-less : tie.Need-loop-less Inv-loop μ-loop
 loop-less c =
     let at-keys = c .before .before .before .before .before in
     let at-push-bar = at-keys .before .before .before .before .before in
-    let at-if1 = at-push-bar .before .before .before .before .before .before in
-    omega (arith, at-push-bar .push-bar .ensures .bars, at-if1 .if1 .taken)
+    let at-loop-test = at-push-bar .before .before .before .before .before .before .before in
+    omega (arith, at-loop-test .loop-test .taken)
 
 pub transcribe-track-spec : {M : Type 1} → statement M
 transcribe-track-spec =
@@ -181,6 +189,7 @@ transcribe-track-spec =
     length-requires
     (λ c. omega (arith, ends (c .before)))
     push-bar-requires
+    add-bars
     next-bar-requires
     same-length
     same-length-2

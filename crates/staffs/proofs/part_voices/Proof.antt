@@ -9,32 +9,39 @@ use Rattle.staffs.proofs.part_voices.Tie as tie
 returns : tie.Need-returns
 returns c = not-opened _ _ (c .before .before .open-part .ensures) (c .if1 .taken) refl
 
+most-notes-requires : tie.Need-most-notes-requires
+most-notes-requires c κs = part-admitted _ _ (c .before .before .open-part .ensures) (c .if1 .left) .sizes
+
 work-for-requires : tie.Need-work-for-requires
 work-for-requires c κs =
-    let opened = c .before .before .open-part .ensures in
-    few-notes _ (part-admitted _ _ opened (c .if1 .left)) (opened .most (c .if1 .left))
+    let at-if1 = c .before in
+    few-notes _ (part-admitted _ _ (at-if1 .before .before .open-part .ensures) (at-if1 .if1 .left)) (c .most-notes .ensures)
 
 returns-2 : tie.Need-returns-2
 returns-2 c =
-    let at-if1 = c .before .before in
-    no-work _ _ (at-if1 .before .before .open-part .ensures) (at-if1 .if1 .left) (rw (c .before .work-for .ensures) at (c .if2 .taken)) refl
+    let at-most = c .before .before in
+    let at-if1 = at-most .before in
+    no-work _ _ (at-if1 .before .before .open-part .ensures) (at-if1 .if1 .left) (at-most .most-notes .ensures)
+    (rw (c .before .work-for .ensures) at (c .if2 .taken)) refl
 
 cut-requires : tie.Need-cut-requires
 cut-requires c κs =
-    let at-if1 = c .before .before in
+    let at-if1 = c .before .before .before in
     cut-deltas (at-if1 .before .before .open-part .ensures .own (at-if1 .if1 .left))
 
 cut-requires-2 : tie.Need-cut-requires-2
 cut-requires-2 c κs =
-    let at-if1 = c .before .before .before in
+    let at-if1 = c .before .before .before .before in
     cut-words (at-if1 .before .before .open-part .ensures .own (at-if1 .if1 .left))
 
 track-voices-requires : tie.Need-track-voices-requires
 track-voices-requires c κs =
     let at-cut2 = c .before .before in
     let at-if2 = at-cut2 .before .before in
-    let at-if1 = at-if2 .before .before in
-    tracked _ _ (at-if1 .before .before .open-part .ensures) (at-if1 .if1 .left) (at-cut2 .before .cut .ensures) (at-cut2 .cut2 .ensures)
+    let at-most = at-if2 .before .before in
+    let at-if1 = at-most .before in
+    tracked _ _ (at-if1 .before .before .open-part .ensures) (at-if1 .if1 .left) (at-most .most-notes .ensures)
+    (at-cut2 .before .cut .ensures) (at-cut2 .cut2 .ensures)
     (c .before .ticks-per-quarter .ensures) (rw (at-if2 .before .work-for .ensures) at (at-if2 .if2 .left)) refl
 
 returns-3 : tie.Need-returns-3
@@ -42,8 +49,10 @@ returns-3 c =
     let at-voices = c .before .before in
     let at-cut2 = at-voices .before .before .before in
     let at-if2 = at-cut2 .before .before in
-    let at-if1 = at-if2 .before .before in
-    voiced _ _ (at-if1 .before .before .open-part .ensures) (at-if1 .if1 .left) (at-cut2 .before .cut .ensures) (at-cut2 .cut2 .ensures)
+    let at-most = at-if2 .before .before in
+    let at-if1 = at-most .before in
+    voiced _ _ (at-if1 .before .before .open-part .ensures) (at-if1 .if1 .left) (at-most .most-notes .ensures)
+    (at-cut2 .before .cut .ensures) (at-cut2 .cut2 .ensures)
     (at-voices .before .before .ticks-per-quarter .ensures) (rw (at-if2 .before .work-for .ensures) at (at-if2 .if2 .left)) refl refl
     (at-voices .track-voices .ensures)
 
@@ -53,6 +62,7 @@ part-voices-spec =
     (tie.spec
     (λ c κs. search needs)
     returns
+    most-notes-requires
     work-for-requires
     returns-2
     cut-requires

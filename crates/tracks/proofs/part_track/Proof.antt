@@ -18,22 +18,22 @@ cut-requires c κs = cut-words (c .before .before .before .loop .inv .cut) (omeg
 
 returns : tie.Need-returns Inv-loop μ-loop
 returns c =
-    let at-ons = c .before .before in
-    let at-cut = at-ons .before in
+    let at-notes = c .before .before in
+    let at-cut = at-notes .before in
     let at-loop = at-cut .before .before .before .before in
     let size = at-cut .before .size .ensures in
-    let ons = rw (at-cut .cut .ensures, size) at (at-ons .ons .ensures) in
-    rw size (seek-here (at-loop .loop .inv) (omega arith) ons (omega (arith, c .before .if1 .taken)) (c .if2 .taken))
+    let notes = rw (at-cut .cut .ensures, size) at (at-notes .has-notes .ensures) in
+    rw size (seek-here (at-loop .loop .inv) (omega arith) notes (c .before .if1 .taken) (c .if2 .taken))
 
 loop-again : tie.Need-loop-again Inv-loop μ-loop
 loop-again c =
     let at-cut = c .before .before in
     let at-loop = at-cut .before .before .before .before in
     let size = at-cut .before .size .ensures in
-    let ons = rw (at-cut .cut .ensures, size) at (c .before .ons .ensures) in
+    let notes = rw (at-cut .cut .ensures, size) at (c .before .has-notes .ensures) in
     ⊎-elim
-    (λ w. rw (w .2, size) (seek-past (at-loop .loop .inv) (omega arith) ons (omega (arith, w .0 .taken)) (omega (arith, w .1 .left))))
-    (λ w. rw (w .1, size) (seek-skip (at-loop .loop .inv) (omega arith) ons (w .0 .left)))
+    (λ w. rw (w .2, size) (seek-past (at-loop .loop .inv) (omega arith) notes (w .0 .taken) (omega (arith, w .1 .left))))
+    (λ w. rw (w .1, size) (seek-skip (at-loop .loop .inv) (omega arith) notes (w .0 .left)))
     (c .if1 .came)
 
 pub part-track-spec : {M : Type 1} → statement M

@@ -5,7 +5,7 @@ use mathlib.Core.Path.{sym, _∙_}
 use native.Mathlib.Omega.{arith}
 use borrow.Author.Needs.{needs}
 use lib.ListN.{getD}
-use Rattle.values.proofs.Entries.{Counted, counted-long, counted-more, counted-over, counted-all, division-few, counted-end}
+use Rattle.values.proofs.Entries.{coming-end, coming-zero, Counted, counted-start, division-few, counted-long, counted-more, counted-over, counted-end}
 use Rattle.values.proofs.count_pieces.Statement.{statement}
 use Rattle.values.proofs.count_pieces.Tie as tie
 
@@ -16,15 +16,15 @@ abbrev μ-loop : tie.MeasureT-loop
 μ-loop values ticks count₀ left₀ i₀ count left i = 18 - i
 
 loop-holds : tie.Need-loop-holds Inv-loop μ-loop
-loop-holds c = record { within = omega arith; few = omega arith; is = omega arith }
+loop-holds c = counted-start (c .first-entry .ensures)
 
 returns : tie.Need-returns Inv-loop μ-loop
-returns c p h e = counted-all p (c .if1 .taken) (c .before .before .loop .inv) h e
+returns c p h e = counted-end p (coming-zero _ _ _ (c .if1 .taken)) (c .before .before .loop .inv) h e
 
 -- entry i fits, and so has ticks
 long : (c : tie.Then2 Inv-loop μ-loop) →
     let at-loop = c .before .before .before .before .before in
-    0 < getD (at-loop .before .args .values .now) (at-loop .loop .i) 0
+    0 < getD (at-loop .before .before .args .values .now) (at-loop .loop .i) 0
 long c = counted-long (omega arith) (c .before .before .before .before .before .loop .inv) (sym (c .before .fits2 .ensures) ∙ c .if2 .taken)
 
 loop-again : tie.Need-loop-again Inv-loop μ-loop
@@ -37,7 +37,7 @@ loop-again c =
     (c .if2 .came)
 
 returns-2 : tie.Need-returns-2 Inv-loop μ-loop
-returns-2 c p h e = counted-end p (omega arith) (c .before .loop .inv) h e
+returns-2 c p h e = counted-end p (coming-end _ _ _ (omega arith)) (c .before .loop .inv) h e
 
 pub count-pieces-spec : {M : Type 1} → statement M
 count-pieces-spec =
@@ -45,6 +45,7 @@ count-pieces-spec =
     (tie.spec
     Inv-loop
     μ-loop
+    (λ c κs. search needs)
     loop-holds
     returns
     (λ c. omega arith)
@@ -52,7 +53,7 @@ count-pieces-spec =
     (λ c κs. search needs)
     (λ c. long c)
     (λ c. let at-loop = c .before .before .before .before .before in
-    omega (arith, division-few (at-loop .loop .left) (getD (at-loop .before .args .values .now) (at-loop .loop .i) 0) (long c)))
+    omega (arith, division-few (at-loop .loop .left) (getD (at-loop .before .before .args .values .now) (at-loop .loop .i) 0) (long c)))
     (λ c. long c)
     (λ c. omega arith)
     (λ c. omega arith)

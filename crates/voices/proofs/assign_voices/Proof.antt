@@ -21,7 +21,7 @@ gather-chords-requires c κs =
 
 returns : tie.Need-returns
 returns c ns given small =
-    let placed = c .before .before .before in
+    let placed = c .before .before in
     let gathered = placed .before .before .before .before in
     let snapped = gathered .before .before .before .before in
     voices-in given small (snapped .before .before .before .pre .2) (snapped .snap-notes .ensures) (gathered .gather-chords .ensures)

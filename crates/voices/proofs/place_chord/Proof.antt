@@ -5,7 +5,7 @@ use native.Mathlib.Omega.{arith}
 use borrow.Author.Needs.{needs}
 use Rattle.rules.specs.Voices.{Chord, Choice, free, together, cut, choose}
 use Rattle.chords.specs.Columns.{chordAt, chordOf}
-use Rattle.voices.specs.Placing.{asChoice, voicesAt}
+use Rattle.voices.specs.Placing.{lastsOf, asChoice, voicesAt}
 use Rattle.voices.proofs.Ways.{Filled, free-place, together-place, cut-place, placed-free, placed-together, placed-cut}
 use Rattle.voices.proofs.place_chord.Statement.{statement}
 use Rattle.voices.proofs.place_chord.Tie as tie
@@ -13,22 +13,22 @@ use Rattle.voices.proofs.place_chord.Tie as tie
 -- ---- where the code has chosen
 
 abbrev entry : tie.After-choose → tie.Start
-entry c = c .before .before .before .before
+entry c = c .before .before .before .before .before .before
 
 -- the rules choose x
 abbrev Chosen : tie.After-choose → Choice → Type 0
 Chosen c x =
     x
     ≡ choose (chordAt (entry c .args .n) (entry c .args .work .now) (entry c .args .k))
-    (voicesAt (entry c .args .n) (entry c .args .work .now) (entry c .args .lasts .lens))
+    (voicesAt (entry c .args .n) (entry c .args .work .now) (entry c .args .lens .now))
 
 -- voice v has a chord
 abbrev HasChord : tie.After-choose → ℕ → Type 0
-HasChord c v = Filled (entry c .args .n) v (entry c .args .lasts .lens) (entry c .args .work .now)
+HasChord c v = Filled (entry c .args .n) v (entry c .args .lens .now) (entry c .args .work .now)
 
 chosen : (c : tie.After-choose) → Chosen c (asChoice (c .choose .result))
 chosen c =
-    c .choose .ensures _ _ (ap (λ (x : Chord). x .start) (sym (c .before .chord-at .ensures))) (entry c .pre .known)
+    c .choose .ensures _ _ _ (ap (λ (x : Chord). x .start) (sym (c .before .before .before .chord-at .ensures))) (entry c .pre .known)
 
 -- ---- in each arm
 
@@ -49,60 +49,60 @@ is-squeezed c = cut-place (entry (c .before .before) .pre) (is-cut c)
 
 push-requires : tie.Need-push-requires
 push-requires c κs =
-    let d = c .before .before in
+    let d = c .before .before .before .before .before in
     let pre = entry (d .before .before) .pre in
     let room = free-place pre (is-free d) in
     (room .0, pre .cells .area, room .1)
 
 last-of-requires : tie.Need-last-of-requires
 last-of-requires c κs =
-    let d = c .before .before in
+    let d = c .before .before .before in
     let f = takes-keys d in
     (f .voice, entry (d .before .before) .pre .cells .area, f .some, omega arith)
 
 give-keys-requires : tie.Need-give-keys-requires
 give-keys-requires c κs =
-    let d = c .before .before .before .before in
+    let d = c .before .before .before .before .before in
     (entry (d .before .before) .pre .cells .area, rw (c .before .last-of .ensures) (takes-keys d .last))
 
 last-of-requires-2 : tie.Need-last-of-requires-2
 last-of-requires-2 c κs =
-    let d = c .before .before in
+    let d = c .before .before .before in
     let f = is-squeezed d in
     (f .voice, entry (d .before .before) .pre .cells .area, f .some, omega arith)
 
 cut-chord-requires : tie.Need-cut-chord-requires
 cut-chord-requires c κs =
-    let d = c .before .before .before .before in
+    let d = c .before .before .before .before .before in
     (entry (d .before .before) .pre .cells .area, rw (c .before .last-of2 .ensures) (is-squeezed d .last))
 
 push-requires-2 : tie.Need-push-requires-2
 push-requires-2 c κs =
-    let at-cut-chord = c .before .before .before in
-    let d = at-cut-chord .before .before .before .before .before in
+    let at-cut-chord = c .before .before .before .before .before .before in
+    let d = at-cut-chord .before .before .before .before .before .before in
     let f = is-squeezed d in
     (f .voice, rw (at-cut-chord .cut-chord .ensures .kept) (entry (d .before .before) .pre .cells .area), f .few)
 
 returns : tie.Need-returns
 returns c =
-    let d = c .before .before .before .before .before in
-    let read = d .before .before .before .chord-at in
-    placed-free (entry (d .before .before) .pre) (chordOf (read .result)) (read .ensures) (is-free d) (c .before .before .push .ensures)
+    let d = c .before .before .before .before .before .before .before .before in
+    let read = d .before .before .before .before .before .chord-at in
+    placed-free (entry (d .before .before) .pre) (chordOf (read .result)) {r = lastsOf _ _ _} (read .ensures) (is-free d) (c .before .before .push .ensures)
 
 returns-2 : tie.Need-returns-2
 returns-2 c =
     let at-last-of = c .before .before .before .before in
-    let d = at-last-of .before .before .before in
-    let read = d .before .before .before .chord-at in
+    let d = at-last-of .before .before .before .before in
+    let read = d .before .before .before .before .before .chord-at in
     placed-together (entry (d .before .before) .pre) (chordOf (read .result)) (read .ensures) (at-last-of .last-of .ensures)
     (is-together d) (c .before .before .give-keys .ensures)
 
 returns-3 : tie.Need-returns-3
 returns-3 c =
-    let e = c .before .before .before .before .before .before in
-    let d = e .before .before .before .before .before in
-    let read = d .before .before .before .chord-at in
-    placed-cut (entry (d .before .before) .pre) (chordOf (read .result)) (read .ensures) (e .before .before .last-of2 .ensures) (is-cut d)
+    let e = c .before .before .before .before .before .before .before .before .before in
+    let d = e .before .before .before .before .before .before in
+    let read = d .before .before .before .before .before .chord-at in
+    placed-cut (entry (d .before .before) .pre) (chordOf (read .result)) {r = lastsOf _ _ _} (read .ensures) (e .before .before .last-of2 .ensures) (is-cut d)
     (e .cut-chord .ensures)
     (c .before .before .push2 .ensures)
 
