@@ -55,13 +55,13 @@
    On a desk machine that is up to 0.03 seconds for 500,000 events, and up to 0.3 seconds for the largest files.
 
    Each call on a piece admits and reads the whole piece again, whatever part it is asked for, and zeroes all of the
-   work area that it is lent: the least area serves fastest, and one that is enough for every piece, 64 MB, takes longer
-   to zero than a short piece to engrave. So an import of all parts, some calls for each, takes time in proportion to
-   parts * events. Heads, counts, bars, automation and diagnostics take time in proportion to events, tracks and bars; sizes,
-   staffs and proof-reading sort the part's notes too. One shape of piece takes longer: acorde_staff_size and
-   acorde_engrave compare a note with the chords that begin where it begins and end elsewhere, so that n notes of one
-   start and n different ends take n * n / 2 comparisons: 0.02 seconds for 5,000 such notes on a desk machine, 2 seconds
-   for 50,000, up to a minute for the worst of all pieces. */
+   work area that it is lent: the least area serves fastest, and one that is enough for every piece, 64 MB, takes
+   longer to zero than a short piece to engrave. So an import of all parts, some calls for each, takes time in
+   proportion to parts * events. Heads, counts, bars, automation and diagnostics take time in proportion to events,
+   tracks and bars; sizes, staffs and proof-reading sort the part's notes too. One shape of piece takes longer:
+   acorde_staff_size and acorde_engrave compare a note with the chords that begin where it begins and end elsewhere, so
+   that n notes of one start and n different ends take n * n / 2 comparisons: 0.02 seconds for 5,000 such notes on a
+   desk machine, 2 seconds for 50,000, up to a minute for the worst of all pieces. */
 #ifndef ACORDE_H
 #define ACORDE_H
 

@@ -26,7 +26,7 @@ or-left m n = omega (arith, or-add-and m n, and-le-r m n)
 pub or-right : (m n : ℕ) → n ≤ bitOr m n
 or-right m n = omega (arith, or-add-and m n, and-le-l m n)
 
-pub xor-none : (m n : ℕ) → bitXor m n ≡ 0 → m ≡ n
+xor-none : (m n : ℕ) → bitXor m n ≡ 0 → m ≡ n
 xor-none m n z = omega (arith, z, xor-add-and m n, and-le-l m n, and-le-r m n)
 
 pub or-none : (m n : ℕ) → bitOr m n ≡ 0 → (m ≡ 0) × (n ≡ 0)

@@ -69,7 +69,8 @@ fn bad_deltas(deltas: &[u32], from: usize, to: usize) -> u32
     all / 268435456
 }
 
-// 0 only for a plain word: a note off, note on, key pressure or controller that is well formed.
+// 0 only for a plain word: a note off, note on, key pressure or controller that is well formed. Of the upper six bits of the kind just
+// that of 8 is set, a is at most 15, b and c at most 127.
 fn not_plain(word: u32) -> u32
     ensures { λ r. ⌜ (r ≡ 0 → wellFormed word ≡ true) ⌝ }
 {

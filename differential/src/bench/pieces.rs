@@ -81,12 +81,15 @@ impl Kind {
             return (0..count).map(|index| self.event(index)).collect();
         };
         let mut random = Random::new(part as u64);
-        let mut notes = 0..;
-        let mut next = |index| match random.once_in(every) {
-            true => Some(random.pick(&OTHERS).event(index)),
-            false => notes.next().map(|note| self.event(note)),
+        let mut notes = 0;
+        let next = |index| {
+            if random.once_in(every) {
+                return random.pick(&OTHERS).event(index);
+            }
+            notes += 1;
+            self.event(notes - 1)
         };
-        (0..count).map_while(&mut next).collect()
+        (0..count).map(next).collect()
     }
 
     /// So many events in so many parts.
