@@ -1,8 +1,9 @@
 #!/usr/bin/env bash
-# Prints the pages of a piece: print.sh [FILE], by default examples/first.txt; `-` is standard input.
+# Prints the page of a piece: print.sh [FILE], by default examples/first.txt; `-` is standard input.
 # A FILE that begins with MThd is a MIDI file, any other is sizes, deltas and words in decimal, one array a line.
-# Proves and builds the printing program first, where that is not done yet.
-set -eu
+# The first time, and where a crate has changed, the printing program is proved and built first: a line for each crate
+# on the standard error. After that it starts at once.
+set -euo pipefail
 file=${1:-"$(dirname "$0")/examples/first.txt"}
 [ "$file" = - ] && file=/dev/stdin
 
@@ -12,12 +13,20 @@ trap 'rm -f "$copy"' EXIT
 cat < "$file" > "$copy"
 program=print
 [ "$(head -c 4 "$copy" | tr -d '\0')" = MThd ] && program=print_file
-exec < "$copy"
+exec 3< "$copy"
 rm "$copy"
 
 cd "$(dirname "$0")"
-if ! said=$(rt check "$program" < /dev/null 2>&1); then
-    echo "$said" >&2
-    exit 1
+binary=target/bin/$program
+if [ ! -x "$binary" ] || [ -n "$(find crates crates.txt -newer "$binary" -print -quit)" ]; then
+    echo "$program is proved and built first, some minutes; each crate as it is done:" >&2
+    said=$(mktemp)
+    trap 'rm -f "$said"' EXIT
+    if ! rt check "$program" < /dev/null 2>&1 | tee "$said" | sed -un 's/^rt: /  /p' >&2; then
+        cat "$said" >&2
+        exit 1
+    fi
+    rm "$said"
+    touch "$binary"
 fi
-exec "target/bin/$program"
+exec "$binary" <&3 3<&-

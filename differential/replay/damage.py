@@ -12,9 +12,10 @@ from pathlib import Path
 ROOT = Path(__file__).resolve().parents[2]
 PROGRAM = ROOT / "target/bin/replay"
 LIST = (ROOT / "crates/replay/stdin").read_bytes()
-CALLS = ["head", "part count", "part head", "bars", "staff size", "engrave", "automation", "diagnostics"]
-# In these places another number may be as right: a velocity that no answer shows, a room that is still enough.
-MAY_AGREE = {"deltas", "words given", "sizes", "zeros", "room", "part", "call number"}
+# In these places another number may be as right: a velocity that no answer shows, a room that is still enough, a staff that
+# gets the same answer.
+GIVEN_STAFF = {"keys given", "counts given", "heads given"}
+MAY_AGREE = {"deltas", "words given", "sizes", "zeros", "room", "part", "call number"} | GIVEN_STAFF
 
 
 def run(text):
@@ -34,7 +35,7 @@ def numbers(line, begin):
 
 def places():
     """The places of the numbers by kind."""
-    kinds, at, given = {}, 0, True
+    kinds, at, given, name = {}, 0, True, ""
     add = lambda kind, spots: kinds.setdefault(kind, []).extend(spots)
     for line in LIST.splitlines(keepends=True):
         spots = numbers(line, at)
@@ -60,7 +61,8 @@ def places():
             pass
         else:
             add("list length", spots[:1])
-            add("words given" if label == "words" and given else label, spots[1:])
+            of_input = label == "words" and given or name == "proof read" and not given
+            add(f"{label} given" if of_input else label, spots[1:])
         at += len(line)
     return kinds
 

@@ -20,6 +20,7 @@ pub mod library;
 pub mod list;
 pub mod mutate;
 pub mod packed;
+pub mod pages;
 pub mod piece;
 pub mod proofread;
 pub mod reader;

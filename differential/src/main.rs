@@ -13,7 +13,7 @@ use differential::piece::Piece;
 use differential::proofread::{self, Library};
 #[cfg(feature = "library")]
 use differential::{arbitrary, bench, compare, shrink};
-use differential::{generate, list, reference, staffs, text};
+use differential::{generate, list, pages, reference, staffs, text};
 use std::io::Read;
 use std::process::ExitCode;
 
@@ -27,6 +27,8 @@ const USAGE: &str = "usage: differential COMMAND
   staffs SEED INDEX CHANGES  a generated piece's staffs, engraved and changed, with the plain proof-reader's answers
   list SEED COUNT      a list of the reference's answers for the program `replay`; coverage on the standard error
   list-files SEED COUNT  the same of a second reader's answers on files, for the program `replay_files`
+  pages                the printing programs' pages of the real pieces against the reference's text
+  pages SEED COUNT     the same of generated pieces
   compare SEED COUNT [SECONDS]    the proved library against the reference (feature `library`)
   sweep SEED COUNT [SECONDS]      short pieces in less time: most with exactly enough room alone (feature `library`)
   large                           the same on the benchmark's pieces (feature `library`)
@@ -72,6 +74,10 @@ fn main() -> ExitCode {
             eprint!("{report}");
             Ok(())
         }),
+        ["pages"] => pages::real(),
+        ["pages", seed, count] => {
+            number(seed).and_then(|seed| pages::generated(seed, number(count)?))
+        }
         #[cfg(feature = "library")]
         ["bench", ref tables @ ..] => {
             bench::tables(tables);

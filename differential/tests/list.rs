@@ -1,16 +1,32 @@
 //! The stored list is what the command makes, and it reaches what it should.
 
-use differential::list;
+use differential::coverage::Report;
+use differential::list::{self, Changes};
 
 /// The seed and the number of pieces that docs/REPLAY.md names.
 const SEED: u64 = 1;
 const PIECES: u64 = 60_000;
 
+/// So many changed staffs at least for each point and each of its reasons.
+const STAFFS: usize = 3;
+
 #[test]
 fn the_stored_list_is_the_reference_s() {
     let stored = std::fs::read_to_string("../crates/replay/stdin").expect("the stored list");
-    let (text, report) = list::of_seed(SEED, PIECES);
+    let (text, coverage) = list::of_seed(SEED, PIECES);
     assert!(stored == text, "`list {SEED} {PIECES}` makes another list");
+    pieces_reach(&coverage.pieces);
+    changes_reach(&coverage.changes);
+    let written = std::fs::read_to_string("../crates/replay/stdout").expect("the stored output");
+    let count = text.matches("\npiece ").count();
+    let calls = coverage.calls.sum();
+    assert_eq!(
+        written,
+        format!("{count} pieces, {calls} calls, 0 disagreements\n")
+    );
+}
+
+fn pieces_reach(report: &Report) {
     for (fact, count) in report.facts() {
         assert!(count > 0, "no piece with: {fact}");
     }
@@ -23,4 +39,17 @@ fn the_stored_list_is_the_reference_s() {
     for number in 1..=7 {
         assert!(report.refused(number) > 0, "no piece refused with {number}");
     }
+}
+
+/// Each point has staffs that get no by it alone, also long ones, and some changed staffs get yes.
+fn changes_reach(changes: &Changes) {
+    for (point, [_, alone, long]) in changes.points() {
+        assert!(alone >= STAFFS, "{point}: {alone} staffs fail it alone");
+        assert!(long >= STAFFS, "{point}: {long} long staffs");
+    }
+    for (reason, count) in changes.reasons() {
+        assert!(count >= STAFFS, "{reason}: {count} staffs");
+    }
+    assert!(changes.yes() >= 100, "{} yes", changes.yes());
+    assert!(changes.uneven() >= STAFFS, "{} uneven", changes.uneven());
 }

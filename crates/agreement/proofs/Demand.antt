@@ -4,8 +4,6 @@ use mathlib.Core.List.{List, [], _∷_}
 use mathlib.Core.Logic.{_↔_, inl, inr, Iff·trans}
 use mathlib.Core.Path.{_≡_, refl, sym, ap, _∙_}
 use Prim.Native.Nat.{ℕ, _≤_}
-use native.Mathlib.Omega.{arith}
-use borrow.Author.Tests.{le-ltb}
 use lib.ListN.{length}
 use Rattle.rules.specs.Piece.{Piece, ticksPerQuarter}
 use Rattle.rules.specs.Bars.{bars}
@@ -13,14 +11,14 @@ use Rattle.rules.specs.Items.{StaffArrays, arraysOf}
 use Rattle.rules.specs.Staff.{engraved}
 use Rattle.rules.specs.ProofReaderTests.{verdict}
 use Rattle.rules.specs.Refusals.{Result, refused, given, answers, partRefusals, unevenPart, workNeeded}
-use Rattle.rules.specs.Calls.{StaffSize, partNotes, partEven, partSize, partArrays, proofReadRefusals}
+use Rattle.rules.specs.Calls.{StaffSize, partNotes, partEven, partSize, proofReadRefusals}
 use Rattle.laws.specs.Admitted.{Passes}
-use Rattle.laws.proofs.Lists.{All-append}
 use Rattle.laws.proofs.Order.{by-bool}
 use Rattle.laws.proofs.Refusals.{passes-given}
 use Rattle.laws.proofs.Verdict.{yes-exactly, formed-exactly}
 use Rattle.agreement.specs.Demand.{Engraves, Reads, RightFor, Room, Demand3}
-use Rattle.agreement.proofs.Together.{counts-used, heads-used, keys-used, handed, read-is}
+use Rattle.agreement.proofs.Together.{handed, read-is}
+use Rattle.staffs.proofs.PartSizes.{engraves-part}
 
 given-same : {a b : Bool} → given a ≡ given b → a ≡ b
 given-same {a} e = ap (λ (r : Result Bool). elim r [ refused n ↦ a | given c ↦ c ]) e
@@ -54,17 +52,8 @@ not-refused : (x : Piece) (k : ℕ) (lent left : StaffArrays) (work₀ work₁ :
 not-refused x k lent left work₀ work₁ answer part enough room run =
     run .answered
     ∙ ap (answers (λ (s : StaffArrays). partSize x k))
-    (passes-given _ (partArrays x k)
-    (All-append _ (partRefusals x k) _ part (
-      le-ltb (length work₀) (workNeeded x) enough,
-      (
-        le-ltb (length (lent .counts)) (length (partArrays x k .counts)) (omega (arith, counts-used x k, room .counts)),
-        (
-          le-ltb (length (lent .heads)) (length (partArrays x k .heads)) (omega (arith, heads-used x k, room .heads)),
-          (le-ltb (length (lent .keys)) (length (partArrays x k .keys)) (omega (arith, keys-used x k, room .keys)), tt),
-        ),
-      ),
-    )))
+    (engraves-part x k (length (lent .counts)) (length (lent .heads)) (length (lent .keys)) (length work₀) part enough (room .counts) (room .heads)
+    (room .keys))
 
 pub demand-3 : Demand3
 demand-3 =

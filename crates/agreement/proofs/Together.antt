@@ -1,31 +1,24 @@
 -- Engraving, then proof-reading what was written: a refused engraving has its number, any other is handed over whole.
 use Prim.Native.Nat.{ℕ, _*_, _≤_}
-use mathlib.Core.Bool.{Bool, true, false, true≢false, false≢true}
+use mathlib.Core.Bool.{Bool, true, false, false≢true}
 use mathlib.Core.List.{List, [], _∷_, _++_}
-use mathlib.Core.Logic.{inl, inr}
 use mathlib.Core.Path.{_≡_, refl, sym, ap, _∙_}
 use native.Mathlib.Omega.{arith}
 use borrow.Author.Tests.{ltb-false, le-ltb}
-use lib.ListN.{length, take, drop, replicate, length-map, length-replicate}
+use lib.ListN.{length, take, drop, replicate, length-replicate}
 use lib.Seq.{take-at}
 use Rattle.rules.specs.Lists.{written}
-use Rattle.rules.specs.Piece.{Piece, ticksPerQuarter}
+use Rattle.rules.specs.Piece.{Piece}
 use Rattle.rules.specs.Bars.{bars}
-use Rattle.rules.specs.Grid.{grid}
-use Rattle.rules.specs.Items.{StaffArrays, headOf, itemsOf}
-use Rattle.rules.specs.Voices.{voices}
-use Rattle.rules.specs.Staff.{partStaff}
+use Rattle.rules.specs.Items.{StaffArrays}
 use Rattle.rules.specs.Refusals.{Result, refused, given, Refusal, unless, answers, writes, partRefusals, shortWork, shortOutput, unevenPart}
 use Rattle.rules.specs.Refusals.{asItIs, workNeeded}
-use Rattle.rules.specs.Calls.{StaffSize, partTrack, partNotes, partSize, partArrays, partEven, engraveCall}
+use Rattle.rules.specs.Calls.{StaffSize, partSize, partArrays, partEven, engraveCall}
 use Rattle.rules.specs.Calls.{EngraveCalled, proofReadCall, ProofReadCalled}
 use Rattle.laws.specs.Admitted.{Passes}
 use Rattle.laws.proofs.Lists.{All-left, All-right}
-use Rattle.laws.proofs.Order.{by-bool}
-use Rattle.laws.proofs.Refusals.{passes-append, passes-given}
-use Rattle.laws.proofs.VoiceLaws.{voices-four}
-use Rattle.items.proofs.Appending.{keys-length}
-use Rattle.staff.proofs.StaffSizes.{counts-length}
+use Rattle.laws.proofs.Refusals.{passes-append, passes-given, given-first, answers-refused, answers-given}
+use Rattle.staffs.proofs.PartSizes.{counts-used, heads-used, keys-used}
 use Rattle.playback.proofs.Demand.{engraved-yes}
 use Rattle.agreement.specs.Together.{Together}
 use Rattle.agreement.specs.Demand.{used}
@@ -36,26 +29,16 @@ isGiven : {A : Type 0} → Result A → Bool
 isGiven (refused n) = false
 isGiven (given a) = true
 
-valueOr : {A : Type 0} → A → Result A → A
-valueOr d (refused n) = d
-valueOr d (given a) = a
-
 -- what is answered of a refused call is its number, whatever else would be told
 refused-both : {A B C : Type 0} (f : A → B) (g : A → C) (r : Result A) (n : ℕ) → refused n ≡ answers f r → refused n ≡ answers g r
-unfolding isGiven
-refused-both {B = B} f g (refused m) n h = ap (λ (x : Result B). elim x [ refused k ↦ refused k | given c ↦ refused n ]) h
-refused-both f g (given a) n h = absurd (false≢true (ap isGiven h))
+refused-both f g r n h = ap (answers g) (answers-refused f r n h)
 
-module _ {A B : Type 0} (f : A → B) (a : A) where
-  -- a call that answers a value refused nothing
-  given-passes : (rs : List Refusal) (s : B) → given s ≡ answers f (unless rs a) → Passes rs × (s ≡ f a)
-  unfolding unless isGiven valueOr
-  given-passes [] s h = (tt, ap (valueOr s) h)
-  given-passes (r ∷ rs) s h =
-      elim (by-bool (r .applies)) [
-        | inl t ↦ absurd (true≢false (ap isGiven (rw t at h)))
-        | inr t ↦ let (p, e) = given-passes rs s (rw t at h) in ((t, p), e)
-      ]
+-- a call that answers a value refused nothing
+given-passes : {A B : Type 0} (f : A → B) (a : A) (rs : List Refusal) (s : B) → given s ≡ answers f (unless rs a) → Passes rs × (s ≡ f a)
+given-passes f a rs s h =
+    let (b, e, k) = answers-given f (unless rs a) s h in
+    let (p, same) = given-first a rs b e in
+    (p, k ∙ ap f same)
 
 -- with 9 alone left to ask, a refusal is number 9
 only-nine : (even : Bool) {n : ℕ} → refused n ≡ unless (unevenPart even ∷ []) true → refused 9 ≡ unless (unevenPart even ∷ []) true
@@ -63,18 +46,9 @@ unfolding unless isGiven
 only-nine true h = absurd (false≢true (ap isGiven h))
 only-nine false h = refl
 
--- ---- a part's arrays are as long as its size says
+-- ---- with 9 alone left to ask
 
 module _ (x : Piece) (k : ℕ) where
-  pub counts-used : 4 * partSize x k .bars ≡ length (partArrays x k .counts)
-  counts-used = sym (counts-length (ticksPerQuarter x) (voices (grid (ticksPerQuarter x) (partNotes x k)) (partNotes x k)) (voices-four _ _) (bars x))
-
-  pub heads-used : partSize x k .items ≡ length (partArrays x k .heads)
-  heads-used = sym (length-map (itemsOf (partStaff x (partTrack x k))) headOf)
-
-  pub keys-used : 2 * partSize x k .items ≡ length (partArrays x k .keys)
-  keys-used = sym (keys-length (itemsOf (partStaff x (partTrack x k))))
-
   -- 9 alone is left of the proof-reader's numbers where the others let the part pass
   nine-left : (work : ℕ) → Passes (partRefusals x k) → workNeeded x ≤ work
       → proofReadCall x k (partArrays x k) work ≡ unless (unevenPart (partEven x k) ∷ []) true

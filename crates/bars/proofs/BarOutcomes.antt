@@ -1,42 +1,17 @@
 -- The bars call: how many bars there are, its outcome with this room, and what it leaves in the outputs.
 use Prim.Native.Nat.{ℕ, _≤_, _<_}
-use mathlib.Core.Bool.{Bool}
-use mathlib.Core.List.{List, [], _∷_}
-use mathlib.Core.Path.{_≡_, refl, sym, ap, _∙_}
-use native.Mathlib.Omega.{arith}
+use mathlib.Core.List.{List}
+use mathlib.Core.Path.{_≡_, sym, ap, _∙_}
 use borrow.Author.Tests.{lt-ltb, le-ltb}
-use lib.ListN.{length, length-map}
-use Rattle.rules.specs.Piece.{Piece, Event, firstTrack}
-use Rattle.rules.specs.Changes.{Change, Meter, Key, tempoChanges, keyChanges}
-use Rattle.rules.specs.Bars.{Bar, printed, printedFrom, marksFrom, startsOf, marksIn, bars, starts, marks}
+use lib.ListN.{length}
+use Rattle.rules.specs.Piece.{Piece, firstTrack}
+use Rattle.rules.specs.Bars.{bars, starts, marks}
 use Rattle.rules.specs.Refusals.{Result, refused, given, unless, noteRefusals, asItIs}
 use Rattle.rules.specs.Calls.{BarLists, BarsCalled, barsCall}
 use Rattle.laws.specs.Admitted.{Passes}
 use Rattle.laws.proofs.Refusals.{passes-append}
 use Rattle.bar_walk.specs.Walk.{BarsAre}
-
--- one mark a bar
-printed-length : (m : Meter) (bs : List Bar) → length (printedFrom m bs) ≡ length bs
-unfolding printedFrom
-printed-length m [] = refl
-printed-length m (b ∷ bs) = let h = printed-length (b .meter) bs in omega arith
-
-marks-from : (ts : List (Change ℕ)) (ks : List (Change Key)) (bs : List Bar) (ps : List Bool) → length ps ≡ length bs
-    → length (marksFrom ts ks bs ps) ≡ length bs
-unfolding marksFrom
-marks-from ts ks [] ps h = refl
-marks-from ts ks (b ∷ bs) [] h = absurd (omega arith)
-marks-from ts ks (b ∷ bs) (p ∷ ps) h = let r = marks-from ts ks bs ps (omega arith) in omega arith
-
-all-printed : (bs : List Bar) → length (printed bs) ≡ length bs
-all-printed [] = refl
-all-printed (b ∷ bs) = let h = printed-length (b .meter) bs in omega arith
-
-marks-length : (es : List Event) (bs : List Bar) → length (marksIn es bs) ≡ length bs
-marks-length es bs = marks-from (tempoChanges es) (keyChanges es) bs (printed bs) (all-printed bs)
-
-starts-length : (bs : List Bar) → length (startsOf bs) ≡ length bs
-starts-length bs = length-map bs _
+use Rattle.laws.proofs.BarLaws.{marks-length, starts-length}
 
 -- a call that is refused leaves both outputs
 pub bars-refused : {r : Result BarLists} {starts₀ marks₀ : List ℕ} (n : ℕ) → r ≡ refused n
@@ -63,7 +38,7 @@ module _ (x : Piece) (passed : Passes (noteRefusals x)) (n : ℕ) (count : n ≡
         ∙ rw (starts-length (bars x), marks-length (firstTrack x) (bars x), ← count, le-ltb (length starts₀) n h, lt-ltb (length marks₀) n k))
 
     module _ (k : n ≤ length marks₀) where
-      enough : barsCall x (length starts₀) (length marks₀) ≡ given (record { starts = starts x; marks = marks x })
+      pub enough : barsCall x (length starts₀) (length marks₀) ≡ given (record { starts = starts x; marks = marks x })
       unfolding unless
       enough =
           passes-append (noteRefusals x) _ _ passed

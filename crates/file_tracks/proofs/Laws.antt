@@ -29,6 +29,7 @@ use Rattle.file_tracks.specs.declared.Gathered.{Gathered}
 use Rattle.file_tracks.specs.declared.Chunk as place
 use Rattle.file_tracks.specs.declared.Gathering as gathering
 use Rattle.file_tracks.specs.Gathering.{gatheredRead, Grown, fitted, stored, EventsHeld, TracksHeld, ChunkIs, chunkTracks}
+use Rattle.laws.proofs.Lists.{flatten-append}
 
 -- ---- arrays
 
@@ -187,11 +188,6 @@ module _ (body : List ℕ) (es : List Timed) (g : Gathered) (running at : ℕ) (
           ]
 
 -- ---- one track more
-
-flatten-append : {A : Type 0} (xs ys : List (List A)) → flatten (xs ++ ys) ≡ flatten xs ++ flatten ys
-unfolding flatten
-flatten-append [] ys = refl
-flatten-append (x ∷ xs) ys = rw (flatten-append xs ys) (sym (append-assoc x (flatten xs) (flatten ys)))
 
 flatten-snoc : {A : Type 0} (xs : List (List A)) (x : List A) → flatten (xs ++ (x ∷ [])) ≡ flatten xs ++ x
 unfolding flatten

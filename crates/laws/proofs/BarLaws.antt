@@ -1,6 +1,6 @@
 -- Bars: section 4's bars follow one another, and every bar lies before the last bar's end.
 use Prim.Native.Nat.{ℕ, zero, suc, _+_, _≤_, _<_}
-use mathlib.Core.Bool.{false}
+use mathlib.Core.Bool.{Bool, false}
 use mathlib.Core.List.{List, [], _∷_, map}
 use mathlib.Core.Logic.{_⊎_, inl, inr}
 use mathlib.Core.Path.{_≡_, refl, ap}
@@ -8,9 +8,9 @@ use lib.ListN.{length, length-map}
 use native.Mathlib.Omega.{arith}
 use borrow.Author.Tests.{le-leb, lt-leb}
 use Rattle.rules.specs.Lists.{lastOr, sum, All}
-use Rattle.rules.specs.Piece.{Piece}
-use Rattle.rules.specs.Changes.{Meter}
-use Rattle.rules.specs.Bars.{Bar, barLength, barEnd, barsFrom, endOfPiece, barsUpTo, lastBarEnd}
+use Rattle.rules.specs.Piece.{Piece, Event}
+use Rattle.rules.specs.Changes.{Change, Meter, Key, tempoChanges, keyChanges}
+use Rattle.rules.specs.Bars.{Bar, barLength, barEnd, barsFrom, endOfPiece, barsUpTo, lastBarEnd, printed, printedFrom, marksFrom, startsOf, marksIn}
 use Rattle.rules.specs.Voices.{Chord}
 use Rattle.rules.specs.Staff.{voiceIn, voicesIn}
 use Rattle.laws.specs.Claims.{BarsStop}
@@ -127,3 +127,28 @@ last-bar-end t (b ∷ bs) h =
 pub bar-length : (p : ℕ) (vs : List (List Chord)) (b : Bar) → length (voicesIn p vs b) ≡ length vs
 bar-length p [] b = refl
 bar-length p (v ∷ vs) b = ap suc (length-map vs (voiceIn p false b))
+
+-- ---- what is given of them
+
+-- one mark a bar
+printed-length : (m : Meter) (bs : List Bar) → length (printedFrom m bs) ≡ length bs
+unfolding printedFrom
+printed-length m [] = refl
+printed-length m (b ∷ bs) = let h = printed-length (b .meter) bs in omega arith
+
+marks-from : (ts : List (Change ℕ)) (ks : List (Change Key)) (bs : List Bar) (ps : List Bool) → length ps ≡ length bs
+    → length (marksFrom ts ks bs ps) ≡ length bs
+unfolding marksFrom
+marks-from ts ks [] ps h = refl
+marks-from ts ks (b ∷ bs) [] h = absurd (omega arith)
+marks-from ts ks (b ∷ bs) (p ∷ ps) h = let r = marks-from ts ks bs ps (omega arith) in omega arith
+
+all-printed : (bs : List Bar) → length (printed bs) ≡ length bs
+all-printed [] = refl
+all-printed (b ∷ bs) = let h = printed-length (b .meter) bs in omega arith
+
+pub marks-length : (es : List Event) (bs : List Bar) → length (marksIn es bs) ≡ length bs
+marks-length es bs = marks-from (tempoChanges es) (keyChanges es) bs (printed bs) (all-printed bs)
+
+pub starts-length : (bs : List Bar) → length (startsOf bs) ≡ length bs
+starts-length bs = length-map bs _

@@ -1,10 +1,10 @@
 -- Laws of lists: what holds of all or of some elements, tests, the elements that pass one, the least, lengths and sums.
 use Prim.Native.Nat.{ℕ, zero, suc, _+_, _*_, _≤_, _<_}
 use mathlib.Core.Bool.{Bool, true, false, not, true≢false}
-use mathlib.Core.List.{List, [], _∷_, _++_, map, flatten, flatMap, head?}
+use mathlib.Core.List.{List, [], _∷_, _++_, map, flatten, flatMap, head?, append-assoc}
 use mathlib.Core.Logic.{_⊎_, inl, inr}
 use mathlib.Core.Option.{some}
-use mathlib.Core.Path.{_≡_, refl, subst}
+use mathlib.Core.Path.{_≡_, refl, sym, subst}
 use native.Mathlib.Nat.{le-refl, le-of-suc-le-suc}
 use native.Mathlib.Omega.{arith}
 use lib.ListN.{length, getD, take, drop, length-append, take-append-drop}
@@ -146,6 +146,11 @@ module _ {A : Type 0} where
   unfolding flatten sum
   length-flatten [] = refl
   length-flatten (xs ∷ xss) = rw (length-append, length-flatten xss)
+
+  pub flatten-append : (xss yss : List (List A)) → flatten (xss ++ yss) ≡ flatten xss ++ flatten yss
+  unfolding flatten
+  flatten-append [] yss = refl
+  flatten-append (xs ∷ xss) yss = rw (flatten-append xss yss) (sym (append-assoc xs (flatten xss) (flatten yss)))
 
   -- lists of one length
   pub length-flatten-each : (n : ℕ) (xss : List (List A)) → All (λ xs. length xs ≡ n) xss → length (flatten xss) ≡ n * length xss

@@ -10,10 +10,11 @@ use borrow.Author.Tests.{ltb-false, leb-true, eqb-true, eqb-false, not-false}
 use lib.ListN.{length, take, drop, length-take, length-drop}
 use Rattle.rules.specs.Lists.{All, sum}
 use Rattle.rules.specs.Piece.{Piece, Event, largestSize, division, trackCount, eventCounts, sizesAgree, wellFormed, timecode, timed, cutTracks, tracks}
-use Rattle.rules.specs.Refusals.{refused, given, Refusal, unless, firstNumber, eventRefusals, pieceRefusals, mostEvents, largestDelta}
+use Rattle.rules.specs.Refusals.{Result, refused, given, answers, Refusal, unless, firstNumber, eventRefusals, pieceRefusals, noteRefusals, mostEvents}
+use Rattle.rules.specs.Refusals.{largestDelta}
 use Rattle.laws.specs.Admitted.{Passes, Admitted, TicksBelow, TicksStayBelow, TicksPerQuarterPositive}
 use Rattle.laws.proofs.Order.{by-bool}
-use Rattle.laws.proofs.Lists.{All-take, All-drop}
+use Rattle.laws.proofs.Lists.{All-append, All-take, All-drop}
 
 module _ {A : Type 0} where
   pub passes-given : (rs : List Refusal) (a : A) → Passes rs → unless rs a ≡ given a
@@ -72,6 +73,50 @@ unfolding firstNumber
 number-after [] ss h = refl
 number-after (r ∷ rs) ss h = rw (h .0) (number-after rs ss (h .1))
 
+-- ---- what was refused, what was given
+
+module _ {A : Type 0} (a : A) where
+  pub refused-first : (rs : List Refusal) (n : ℕ) → Numbered rs → refused n ≡ unless rs a → (firstNumber rs ≡ n) × (0 < n)
+  unfolding unless firstNumber
+  refused-first [] n m h =
+      let z : _≡_ {A = ℕ} 0 1 = cc in
+      absurd (omega arith)
+  refused-first (r ∷ rs) n m h =
+      elim (by-bool (r .applies)) [
+        | inl t ↦
+            let e : n ≡ r .number = (let g = rw t at h in cc) in
+            (rw (t, e), rw e (m .0))
+        | inr t ↦ rw t (refused-first rs n (m .1) (rw t at h))
+      ]
+
+  pub given-first : (rs : List Refusal) (b : A) → given b ≡ unless rs a → Passes rs × (b ≡ a)
+  unfolding unless
+  given-first [] b h = (tt, cc)
+  given-first (r ∷ rs) b h =
+      elim (by-bool (r .applies)) [
+        | inl t ↦
+            let g = rw t at h in
+            let z : _≡_ {A = ℕ} 0 1 = cc in
+            absurd (omega arith)
+        | inr t ↦ let (p, e) = given-first rs b (rw t at h) in ((t, p), e)
+      ]
+
+-- a result from what is answered of it by value
+module _ {A B : Type 0} (f : A → B) where
+  pub answers-refused : (r : Result A) (n : ℕ) → refused n ≡ answers f r → refused n ≡ r
+  answers-refused (refused m) n h =
+      let e : n ≡ m = cc in
+      ap refused e
+  answers-refused (given a) n h =
+      let z : _≡_ {A = ℕ} 0 1 = cc in
+      absurd (omega arith)
+
+  pub answers-given : (r : Result A) (b : B) → given b ≡ answers f r → (a : A) × (given a ≡ r) × (b ≡ f a)
+  answers-given (refused m) b h =
+      let z : _≡_ {A = ℕ} 0 1 = cc in
+      absurd (omega arith)
+  answers-given (given a) b h = (a, refl, cc)
+
 -- ---- numbers 1 to 5
 
 event-numbers : (ds ws : List ℕ) → Numbered (eventRefusals ds ws)
@@ -83,6 +128,9 @@ event-numbers (d ∷ ds) (w ∷ ws) = (omega arith, (omega arith, event-numbers 
 pub piece-numbers : (x : Piece) → Numbered (pieceRefusals x)
 unfolding pieceRefusals
 piece-numbers x = (omega arith, (omega arith, (omega arith, event-numbers (x .deltas) (x .words))))
+
+pub note-numbers : (x : Piece) → Numbered (noteRefusals x)
+note-numbers x = All-append _ (pieceRefusals x) _ (piece-numbers x) (omega arith, tt)
 
 events-pass : (ds ws : List ℕ) → length ds ≡ length ws → Passes (eventRefusals ds ws)
     → All (λ d. d ≤ largestDelta) ds × All (λ w. wellFormed w ≡ true) ws

@@ -15,7 +15,7 @@ use Rattle.rules.specs.Refusals.{refused, Refusal, refuse, firstNumber, unless,
 use Rattle.laws.specs.Admitted.{Passes, Admitted}
 use Rattle.laws.proofs.Lists.{All-append, All-left, All-right, All-get}
 use Rattle.laws.proofs.Places.{none-empty, some-left}
-use Rattle.laws.proofs.Refusals.{admitted, passes-append, Numbered, number-first, number-after, number-refused, number-passes, piece-numbers}
+use Rattle.laws.proofs.Refusals.{admitted, passes-append, Numbered, number-first, number-after, number-refused, number-passes, piece-numbers, note-numbers}
 use Rattle.track_events.specs.Track.{Track, eventsOf, stretch}
 use Rattle.tracks.specs.Spans.{IsSpan}
 use Rattle.tracks.specs.declared.Span.{Span}
@@ -58,9 +58,6 @@ module _ {ds ws : List ℕ} {es : List Event} {r : Span} (s : IsSpan ds ws es r)
   cut-words = (s .order, s .words)
 
 -- ---- none of a piece's numbers applies
-
-note-numbers : (x : Piece) → Numbered (noteRefusals x)
-note-numbers x = All-append _ (pieceRefusals x) _ (piece-numbers x) (omega arith, tt)
 
 part-numbers : (x : Piece) (k : ℕ) → Numbered (partRefusals x k)
 part-numbers x k = All-append _ (noteRefusals x) _ (note-numbers x) (omega arith, tt)

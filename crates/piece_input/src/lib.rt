@@ -1,4 +1,5 @@
 // The piece of standard input, read chunk by chunk into lent arrays.
+ghost use Rattle.piece_input.specs.Input.{SoFar, ReadText};
 use libc::STDIN_FILENO;
 use piece_text::Reader;
 use piece_text::Text;
@@ -10,7 +11,10 @@ struct Turn {
 }
 
 // Reads once.
-fn read_some(reader: Reader, sizes: &mut [u32], deltas: &mut [u32], words: &mut [u32]) -> Turn {
+fn read_some(reader: Reader, sizes: &mut [u32], deltas: &mut [u32], words: &mut [u32]) -> Turn
+    requires { ⌜ SoFar reader (now sizes) (now deltas) (now words) ⌝ }
+    ensures { λ r. ⌜ SoFar (r .reader) (now (sizes .exit)) (now (deltas .exit)) (now (words .exit)) ⌝ }
+{
     let mut buf = io::large_buffer();
     let got = libc::read(STDIN_FILENO, &mut buf);
     if got <= 0 {
@@ -28,7 +32,9 @@ fn read_some(reader: Reader, sizes: &mut [u32], deltas: &mut [u32], words: &mut 
 }
 
 // Reads to the end. The turns are counted down, from a number that no run uses up.
-fn read_all(sizes: &mut [u32], deltas: &mut [u32], words: &mut [u32]) -> Reader {
+fn read_all(sizes: &mut [u32], deltas: &mut [u32], words: &mut [u32]) -> Reader
+    ensures { λ r. ⌜ SoFar r (now (sizes .exit)) (now (deltas .exit)) (now (words .exit)) ⌝ }
+{
     let mut reader = piece_text::start();
     let mut turns = u64::MAX;
     while turns > 0 {
@@ -43,7 +49,9 @@ fn read_all(sizes: &mut [u32], deltas: &mut [u32], words: &mut [u32]) -> Reader 
 }
 
 // What standard input is, its numbers in the arrays.
-pub fn read_input(sizes: &mut [u32], deltas: &mut [u32], words: &mut [u32]) -> Text {
+pub fn read_input(sizes: &mut [u32], deltas: &mut [u32], words: &mut [u32]) -> Text
+    ensures { λ r. ⌜ ReadText r (now (sizes .exit)) (now (deltas .exit)) (now (words .exit)) ⌝ }
+{
     let reader = read_all(sizes, deltas, words);
     piece_text::finish(reader, sizes, deltas, words)
 }

@@ -1,13 +1,14 @@
-// Prints the pages of a piece, read from standard input as a MIDI file.
+// Prints the page of a MIDI file, read from standard input.
 //
 // It holds files of 1,000,000 bytes; the bytes of a larger one are counted. Its other arrays hold the piece of every file that is read.
 use basics::MOST_BYTES;
-use files::PieceAnswer;
-use files::PieceSize;
 use libc::STDIN_FILENO;
+use page_openings::Opened;
 ghost use Prim.Native.Nat.{_≤_};
+ghost use mathlib.Core.Path.{_≡_};
 ghost use lib.ListN.{length};
-ghost use Rattle.print_file.specs.Held.{Held};
+ghost use Rattle.page_openings.specs.Places.{Within};
+ghost use Rattle.print_file.specs.Input.{Counted, FileOpened};
 
 // How many bytes one more read gives, none of which is held; 0 at the end.
 fn pass_over() -> usize
@@ -18,71 +19,112 @@ fn pass_over() -> usize
     io::count(got, &buf)
 }
 
-// The number of a file that is not held whole: 11 where it has more bytes than a file may have, else 8.
-fn number_beyond(read: usize) -> u32 {
+// How many bytes there are behind those read, with them: counted until there are more than a file may have.
+fn count_on(read: usize) -> usize
+    ensures { λ r. ⌜ read ≤ r ⌝ }
+{
     let mut n = read;
     while n <= MOST_BYTES {
         let more = pass_over();
         if more == 0 {
-            return 8;
+            return n;
         }
         n += more;
     }
-    11
+    n
 }
 
-// The piece of standard input. A file that fills the room for its bytes is not held whole.
-fn read_file(
+// How many bytes there are. A file that fills the room for its bytes may have more.
+fn total(read: usize, room: usize) -> usize
+    ensures { λ r. ⌜ Counted read room r ⌝ }
+{
+    if read < room {
+        return read;
+    }
+    count_on(read)
+}
+
+// The file of standard input opened, in arrays that are lent.
+fn open_held(
     file: &mut [u8],
     sizes: &mut [u32],
     deltas: &mut [u32],
     words: &mut [u32],
-) -> PieceAnswer
-    ensures { λ r. ⌜ Held r (length (now (sizes .exit))) (length (now (deltas .exit))) ⌝ }
+    starts: &mut [u64],
+    marks: &mut [u64],
+    work: &mut [u64],
+) -> Opened
+    requires { ⌜ length (now file) ≡ 1000001 ⌝ }
+    requires { ⌜ (65537 ≤ length (now sizes)) × (500000 ≤ length (now deltas)) × (500000 ≤ length (now words)) ⌝ }
+    requires { ⌜ (10000 ≤ length (now starts)) × (10000 ≤ length (now marks)) ⌝ }
+    ensures within { λ r. ⌜ Within (now (sizes .exit)) (now (deltas .exit)) (now (words .exit)) r ⌝ }
+    ensures opened { λ r. ⌜ FileOpened (record { items = 60000; work = length (now (work .entry)) })
+        (now (sizes .exit)) (now (deltas .exit)) (now (words .exit)) (now (starts .exit)) (now (marks .exit)) r ⌝ }
 {
     let n = io::read_full(STDIN_FILENO, file);
-    if n == file.len() {
-        return PieceAnswer::Refused(number_beyond(n));
-    }
-    files::read(&file[..n], sizes, deltas, words)
+    let all = total(n, file.len());
+    page_openings::open_file(
+        &file[..n],
+        all,
+        1000000,
+        sizes,
+        deltas,
+        words,
+        60000,
+        starts,
+        marks,
+        work,
+    )
 }
 
 // The same, with room for the bytes.
-fn read_input(sizes: &mut [u32], deltas: &mut [u32], words: &mut [u32]) -> PieceAnswer
-    ensures { λ r. ⌜ Held r (length (now (sizes .exit))) (length (now (deltas .exit))) ⌝ }
+fn open_input(
+    sizes: &mut [u32],
+    deltas: &mut [u32],
+    words: &mut [u32],
+    starts: &mut [u64],
+    marks: &mut [u64],
+    work: &mut [u64],
+) -> Opened
+    requires { ⌜ (65537 ≤ length (now sizes)) × (500000 ≤ length (now deltas)) × (500000 ≤ length (now words)) ⌝ }
+    requires { ⌜ (10000 ≤ length (now starts)) × (10000 ≤ length (now marks)) ⌝ }
+    ensures within { λ r. ⌜ Within (now (sizes .exit)) (now (deltas .exit)) (now (words .exit)) r ⌝ }
+    ensures opened { λ r. ⌜ FileOpened (record { items = 60000; work = length (now (work .entry)) })
+        (now (sizes .exit)) (now (deltas .exit)) (now (words .exit)) (now (starts .exit)) (now (marks .exit)) r ⌝ }
 {
     let mut file = [0u8; 1000001];
-    read_file(&mut file, sizes, deltas, words)
+    open_held(&mut file, sizes, deltas, words, starts, marks, work)
 }
 
-// The piece that the arrays hold.
-fn print_held(size: PieceSize, sizes: &[u32], deltas: &[u32], words: &[u32])
-    requires { ⌜ (size .sizes ≤ length (now sizes)) × (size .events ≤ length (now deltas)) × (size .events ≤ length (now words)) ⌝ }
-{
-    let s = size.sizes;
-    let e = size.events;
-    printer::print_piece(&sizes[..s], &deltas[..e], &words[..e]);
-}
-
-// What was read: a piece, or a refusal.
-fn print_read(
-    read: PieceAnswer,
-    sizes: &[u32; 65537],
-    deltas: &[u32; 500000],
-    words: &[u32; 500000],
+// Prints the page of the file of standard input, in arrays that are lent.
+fn print_in(
+    sizes: &mut [u32],
+    deltas: &mut [u32],
+    words: &mut [u32],
+    starts: &mut [u64],
+    marks: &mut [u64],
+    work: &mut [u64],
 )
-    requires { ⌜ Held read 65537 500000 ⌝ }
+    requires { ⌜ (65537 ≤ length (now sizes)) × (500000 ≤ length (now deltas)) × (500000 ≤ length (now words)) ⌝ }
+    requires { ⌜ (10000 ≤ length (now starts)) × (10000 ≤ length (now marks)) ⌝ }
 {
-    match read {
-        PieceAnswer::Refused(number) => part_pages::print_refused(number),
-        PieceAnswer::Given(size) => print_held(size, sizes, deltas, words),
-    }
+    let opened = open_input(sizes, deltas, words, starts, marks, work);
+    printer::print_opened(opened, sizes, deltas, words, starts, marks, work);
+}
+
+// The same. The work area is the one of `printer`.
+fn print_read(sizes: &mut [u32], deltas: &mut [u32], words: &mut [u32])
+    requires { ⌜ (65537 ≤ length (now sizes)) × (500000 ≤ length (now deltas)) × (500000 ≤ length (now words)) ⌝ }
+{
+    let mut starts = [0u64; 10000];
+    let mut marks = [0u64; 10000];
+    let mut work = [0u64; 244096];
+    print_in(sizes, deltas, words, &mut starts, &mut marks, &mut work);
 }
 
 fn main() {
     let mut sizes = [0u32; 65537];
     let mut deltas = [0u32; 500000];
     let mut words = [0u32; 500000];
-    let read = read_input(&mut sizes, &mut deltas, &mut words);
-    print_read(read, &sizes, &deltas, &words);
+    print_read(&mut sizes, &mut deltas, &mut words);
 }

@@ -1,156 +1,207 @@
-// Prints the pages of a piece, given as three lines of decimals.
+// Prints a page: turn by turn, the next part is opened where none is open, its next lines are put into a buffer, and the buffer is written.
 //
-// Its arrays are its own, so that it holds 500,000 events, 10,000 note-ons in one track and 50,000 items in one part. Numbers 1 to 7 do not
-// depend on them: what does not fit is counted.
-use heads::PartCountAnswer;
-use piece_text::Counts;
+// Which lines those are, is proved below (crates/page_openings). Here it is proved that the turns end; no contract can say what is written.
+use libc::STDOUT_FILENO;
+use page_openings::Opened;
+use page_openings::Place;
 use piece_text::Text;
-use staffs::StaffAnswer;
-ghost use Prim.Native.Nat.{_≤_};
+ghost use Prim.Native.Nat.{_≤_, _<_};
 ghost use mathlib.Core.Path.{_≡_};
 ghost use lib.ListN.{length};
+ghost use Rattle.rules.specs.Piece.{piece};
+ghost use Rattle.pages.specs.Spots.{sheet};
+ghost use Rattle.piece_input.specs.Input.{ReadText};
+ghost use Rattle.page_openings.specs.Places.{Ready, Rooms, Within};
+ghost use Rattle.printer.specs.Turns.{Nearer, ReadyFor};
 
-// A part whose staff is engraved: its bars, and its pages.
-fn print_staff(
+// A turn: the place behind what was written.
+fn turn(
+    place: Place,
     sizes: &[u32],
     deltas: &[u32],
     words: &[u32],
-    part: u32,
-    bars: usize,
-    counts: &[u32; 40000],
-    heads: &[u32; 50000],
-    keys: &[u64; 100000],
-    at: usize,
-    out: &mut [u8; 65536],
-) -> usize
-    requires { ⌜ at ≤ 65536 ⌝ }
-    ensures { λ r. ⌜ r ≤ 65536 ⌝ }
-{
-    let mut starts = [0u64; 10000];
-    let mut marks = [0u64; 10000];
-    bars::bars(sizes, deltas, words, &mut starts, &mut marks);
-    let p = tracks::ticks_per_quarter(sizes);
-    part_pages::print_part(part, p, bars, &starts, &marks, counts, heads, keys, at, out)
-}
-
-// A part. It was found to have room.
-fn print_part(
-    sizes: &[u32],
-    deltas: &[u32],
-    words: &[u32],
-    part: u32,
+    starts: &[u64],
+    marks: &[u64],
+    counts: &mut [u32],
+    heads: &mut [u32],
+    keys: &mut [u64],
     work: &mut [u64],
-    at: usize,
-    out: &mut [u8; 65536],
-) -> usize
-    requires { ⌜ at ≤ 65536 ⌝ }
-    ensures { λ r. ⌜ r ≤ 65536 ⌝ }
+    out: &mut [u8],
+) -> Place
+    requires { ⌜ Ready (piece (now sizes) (now deltas) (now words)) (record { items = length (now heads); work = length (now work) })
+        (sheet (now counts) (now heads) (now keys) (now starts) (now marks)) place ⌝ }
+    requires { ⌜ Rooms (sheet (now counts) (now heads) (now keys) (now starts) (now marks)) ⌝ }
+    requires { ⌜ 4096 ≤ length (now out) ⌝ }
+    ensures { λ r. ⌜ Nearer (piece (now (sizes .entry)) (now (deltas .entry)) (now (words .entry)))
+        (record { items = length (now (heads .entry)); work = length (now (work .entry)) })
+        (sheet (now (counts .entry)) (now (heads .entry)) (now (keys .entry)) (now (starts .entry)) (now (marks .entry))) place
+        (sheet (now (counts .exit)) (now (heads .exit)) (now (keys .exit)) (now (starts .entry)) (now (marks .entry))) r ⌝ }
 {
-    let mut counts = [0u32; 40000];
-    let mut heads = [0u32; 50000];
-    let mut keys = [0u64; 100000];
-    match staffs::engrave(
+    let open = page_openings::open_next(
+        place,
         sizes,
         deltas,
         words,
-        part,
+        starts,
+        marks,
+        counts,
+        heads,
+        keys,
+        work,
+    );
+    let put = page_openings::put_lines(open, counts, heads, keys, starts, marks, out);
+    let n = put.at;
+    io::write_all(STDOUT_FILENO, &out[..n]);
+    put.place
+}
+
+// All turns of a page.
+fn print_page(
+    place: Place,
+    sizes: &[u32],
+    deltas: &[u32],
+    words: &[u32],
+    starts: &[u64],
+    marks: &[u64],
+    counts: &mut [u32],
+    heads: &mut [u32],
+    keys: &mut [u64],
+    work: &mut [u64],
+    out: &mut [u8],
+)
+    requires { ⌜ Ready (piece (now sizes) (now deltas) (now words)) (record { items = length (now heads); work = length (now work) })
+        (sheet (now counts) (now heads) (now keys) (now starts) (now marks)) place ⌝ }
+    requires { ⌜ Rooms (sheet (now counts) (now heads) (now keys) (now starts) (now marks)) ⌝ }
+    requires { ⌜ 4096 ≤ length (now out) ⌝ }
+{
+    let mut at = place;
+    while page_openings::goes_on(at) {
+        at = turn(
+            at,
+            sizes,
+            deltas,
+            words,
+            starts,
+            marks,
+            counts,
+            heads,
+            keys,
+            work,
+            out,
+        );
+    }
+}
+
+// Prints what was opened, in arrays that are lent.
+fn print_lent(
+    opened: Opened,
+    sizes: &[u32],
+    deltas: &[u32],
+    words: &[u32],
+    starts: &[u64],
+    marks: &[u64],
+    counts: &mut [u32],
+    heads: &mut [u32],
+    keys: &mut [u64],
+    work: &mut [u64],
+    out: &mut [u8],
+)
+    requires { ⌜ Within (now sizes) (now deltas) (now words) opened ⌝ }
+    requires { ⌜ ReadyFor opened (record { items = length (now heads); work = length (now work) })
+        (now sizes) (now deltas) (now words) (now starts) (now marks) ⌝ }
+    requires { ⌜ Rooms (sheet (now counts) (now heads) (now keys) (now starts) (now marks)) ⌝ }
+    requires { ⌜ 4096 ≤ length (now out) ⌝ }
+{
+    let s = opened.sizes;
+    let d = opened.deltas;
+    let w = opened.words;
+    let place = opened.place;
+    print_page(
+        place,
+        &sizes[..s],
+        &deltas[..d],
+        &words[..w],
+        starts,
+        marks,
+        counts,
+        heads,
+        keys,
+        work,
+        out,
+    );
+}
+
+// Prints what was opened. A part has at most 60,000 items.
+pub fn print_opened(
+    opened: Opened,
+    sizes: &[u32],
+    deltas: &[u32],
+    words: &[u32],
+    starts: &[u64],
+    marks: &[u64],
+    work: &mut [u64],
+)
+    requires { ⌜ Within (now sizes) (now deltas) (now words) opened ⌝ }
+    requires { ⌜ ReadyFor opened (record { items = 60000; work = length (now work) }) (now sizes) (now deltas) (now words) (now starts) (now marks) ⌝ }
+    requires { ⌜ (10000 ≤ length (now starts)) × (10000 ≤ length (now marks)) ⌝ }
+{
+    let mut counts = [0u32; 40000];
+    let mut heads = [0u32; 60000];
+    let mut keys = [0u64; 120000];
+    let mut out = io::large_buffer();
+    print_lent(
+        opened,
+        sizes,
+        deltas,
+        words,
+        starts,
+        marks,
         &mut counts,
         &mut heads,
         &mut keys,
         work,
-    ) {
-        StaffAnswer::Refused(_) => at,
-        StaffAnswer::Given(size) => print_staff(
-            sizes,
-            deltas,
-            words,
-            part,
-            size.bars,
-            &counts,
-            &heads,
-            &keys,
-            at,
-            out,
-        ),
-    }
+        &mut out,
+    );
 }
 
-// The parts.
-fn print_parts(sizes: &[u32], deltas: &[u32], words: &[u32], parts: u32, work: &mut [u64]) {
-    let mut out = io::large_buffer();
-    let mut at = 0;
-    let mut part = 0;
-    while part < parts {
-        at = print_part(sizes, deltas, words, part, work, at, &mut out);
-        part += 1;
-    }
-    part_pages::write_page(&out, at);
+// Prints the page of a text that was read, in arrays that are lent.
+fn print_in(
+    text: Text,
+    sizes: &[u32],
+    deltas: &[u32],
+    words: &[u32],
+    starts: &mut [u64],
+    marks: &mut [u64],
+    work: &mut [u64],
+)
+    requires { ⌜ ReadText text (now sizes) (now deltas) (now words) ⌝ }
+    requires { ⌜ (length (now sizes) ≡ 65537) × (length (now deltas) ≡ 500000) × (length (now words) ≡ 500000) ⌝ }
+    requires { ⌜ (10000 ≤ length (now starts)) × (10000 ≤ length (now marks)) ⌝ }
+{
+    let opened = page_openings::open_text(text, sizes, deltas, words, 60000, starts, marks, work);
+    print_opened(opened, sizes, deltas, words, starts, marks, work);
 }
 
-// The number of a part that cannot be printed, by its work area or its items; else 0.
-fn part_number(sizes: &[u32], deltas: &[u32], words: &[u32], part: u32, work: &mut [u64]) -> u32 {
-    match staffs::staff_size(sizes, deltas, words, part, work) {
-        StaffAnswer::Refused(number) => number,
-        StaffAnswer::Given(size) => { if 50000 < size.items { 8 } else { 0 } }
-    }
-}
-
-// The number of the first part that cannot be printed; else 0.
-fn parts_number(sizes: &[u32], deltas: &[u32], words: &[u32], parts: u32, work: &mut [u64]) -> u32 {
-    let mut part = 0;
-    while part < parts {
-        let number = part_number(sizes, deltas, words, part, work);
-        if number != 0 {
-            return number;
-        }
-        part += 1;
-    }
-    0
-}
-
-// The parts, or the refusal of one of them. The work area suffices for 10,000 note-ons: 16 times as many words and 4,096.
-fn print_counted(sizes: &[u32], deltas: &[u32], words: &[u32], parts: u32) {
-    let mut work = [0u64; 164096];
-    let number = parts_number(sizes, deltas, words, parts, &mut work);
-    if number != 0 {
-        part_pages::print_refused(number);
-        return;
-    }
-    print_parts(sizes, deltas, words, parts, &mut work);
-}
-
-// Prints a piece, or its refusal.
-pub fn print_piece(sizes: &[u32], deltas: &[u32], words: &[u32]) {
-    match heads::part_count(sizes, deltas, words) {
-        PartCountAnswer::Refused(number) => part_pages::print_refused(number),
-        PartCountAnswer::Given(parts) => print_counted(sizes, deltas, words, parts),
-    }
-}
-
-// The piece that the arrays hold, or the refusal of one that they do not hold whole.
-fn print_held(counts: Counts, sizes: &[u32], deltas: &[u32], words: &[u32])
+// Prints the page of a text that was read. The work area suffices for 15,000 note-ons in one track: 16 times as many words and 4,096.
+fn print_read(text: Text, sizes: &[u32], deltas: &[u32], words: &[u32])
+    requires { ⌜ ReadText text (now sizes) (now deltas) (now words) ⌝ }
     requires { ⌜ (length (now sizes) ≡ 65537) × (length (now deltas) ≡ 500000) × (length (now words) ≡ 500000) ⌝ }
 {
-    let number = piece_text::number_due(counts, sizes, deltas, words);
-    if number != 0 {
-        part_pages::print_refused(number);
-        return;
-    }
-    let s = counts.sizes;
-    let d = counts.deltas;
-    let w = counts.words;
-    print_piece(&sizes[..s], &deltas[..d], &words[..w]);
+    let mut starts = [0u64; 10000];
+    let mut marks = [0u64; 10000];
+    let mut work = [0u64; 244096];
+    print_in(
+        text,
+        sizes,
+        deltas,
+        words,
+        &mut starts,
+        &mut marks,
+        &mut work,
+    );
 }
 
-// What was read: a piece, or text that is none.
-fn print_read(text: Text, sizes: &[u32; 65537], deltas: &[u32; 500000], words: &[u32; 500000]) {
-    match text {
-        Text::Bad => part_pages::print_refused(1),
-        Text::Lines(counts) => print_held(counts, sizes, deltas, words),
-    }
-}
-
-// Prints the piece of a text.
+// Prints the page of a text.
 pub fn print_text(text: &[u8]) {
     let mut sizes = [0u32; 65537];
     let mut deltas = [0u32; 500000];
@@ -159,7 +210,7 @@ pub fn print_text(text: &[u8]) {
     print_read(read, &sizes, &deltas, &words);
 }
 
-// Prints the piece of standard input.
+// Prints the page of the text of standard input.
 pub fn print_input() {
     let mut sizes = [0u32; 65537];
     let mut deltas = [0u32; 500000];

@@ -1,222 +1,216 @@
 // The calls, each with its answer as numbers: the refusal's, or 0 and the values.
 use automation::AutomationAnswer;
-use automation_events::Counts;
 use bars::BarsAnswer;
+use basics::wide;
 use changes::Head;
 use diagnostics::DiagnosticsAnswer;
 use heads::HeadAnswer;
 use heads::PartCountAnswer;
 use heads::PartHeadAnswer;
-use replayed::Asked;
+use proofread::ReadAnswer;
+use replay_answers::say_one;
+use replay_answers::say_refused;
+use replay_answers::say_two;
 use staffs::StaffAnswer;
+ghost use Prim.Native.Nat.{_≤_};
+ghost use mathlib.Core.Path.{_≡_};
+ghost use lib.ListN.{length};
+ghost use Rattle.rules.specs.Refusals.{given};
+ghost use Rattle.rules.specs.Piece.{piece};
+ghost use Rattle.rules.specs.Calls.{headCall, partCountCall, partHeadCall, barsCall, staffSizeCall, engraveCall, automationCall, diagnosticsCall, proofReadCall};
+ghost use Rattle.rules.specs.Calls.{partSize, BarsCalled, StaffSizeCalled, EngraveCalled, AutomationCalled, DiagnosticsCalled, ProofReadCalled};
+ghost use Rattle.heads.specs.Answers.{headOf};
+ghost use Rattle.staffs.specs.Parts.{answerOf};
+ghost use Rattle.replay_answers.specs.Numbers.{saying};
+ghost use Rattle.replay_calls.specs.Outcomes.{headNumbers, countNumbers, partHeadNumbers, sizeNumbers, automationNumbers, readNumbers};
 
-// Fifths + 8, or 0 where they are out of the range of a key.
-fn fifths_code(fifths: i32) -> u64 {
-    match fifths {
-        -7 => 1,
-        -6 => 2,
-        -5 => 3,
-        -4 => 4,
-        -3 => 5,
-        -2 => 6,
-        -1 => 7,
-        0 => 8,
-        1 => 9,
-        2 => 10,
-        3 => 11,
-        4 => 12,
-        5 => 13,
-        6 => 14,
-        7 => 15,
-        _ => 99,
-    }
-}
-
-fn head_values(h: Head, said: &mut [u64; 8]) {
-    said[0] = 0;
-    said[1] = basics::wide(h.tempo);
-    said[2] = basics::wide(h.upper);
-    said[3] = basics::wide(h.lower);
-    said[4] = 0;
-    said[5] = 0;
+// The values of a head: fifths + 8 and minor are 0 where there is no key.
+fn say_head(h: Head, said: &mut [u64])
+    requires { ⌜ 8 ≤ length (now said) ⌝ }
+    ensures { λ _. ⌜ now (said .exit) ≡ saying headNumbers (now (said .entry)) (given (headOf h)) ⌝ }
+{
+    let tempo = wide(h.tempo);
+    let upper = wide(h.upper);
+    let lower = wide(h.lower);
     if h.has_key {
-        said[4] = fifths_code(h.fifths);
-        if h.minor {
-            said[5] = 1;
-        }
+        let fifths = replay_answers::raised(h.fifths);
+        replay_answers::say_five(tempo, upper, lower, fifths, h.minor as u64, said);
+    } else {
+        replay_answers::say_five(tempo, upper, lower, 0, 0, said);
     }
 }
 
-pub fn head(sizes: &[u32], deltas: &[u32], words: &[u32], said: &mut [u64; 8]) {
+pub fn head(sizes: &[u32], deltas: &[u32], words: &[u32], said: &mut [u64])
+    requires { ⌜ 8 ≤ length (now said) ⌝ }
+    ensures { λ _. ⌜ now (said .exit) ≡ saying headNumbers (now (said .entry))
+        (headCall (piece (now (sizes .entry)) (now (deltas .entry)) (now (words .entry)))) ⌝ }
+{
     match heads::head(sizes, deltas, words) {
-        HeadAnswer::Refused(n) => {
-            said[0] = basics::wide(n);
-        }
-        HeadAnswer::Given(h) => {
-            head_values(h, said);
-        }
+        HeadAnswer::Refused(number) => say_refused(number, said),
+        HeadAnswer::Given(h) => say_head(h, said),
     }
 }
 
-pub fn part_count(sizes: &[u32], deltas: &[u32], words: &[u32], said: &mut [u64; 8]) {
+pub fn part_count(sizes: &[u32], deltas: &[u32], words: &[u32], said: &mut [u64])
+    requires { ⌜ 8 ≤ length (now said) ⌝ }
+    ensures { λ _. ⌜ now (said .exit) ≡ saying countNumbers (now (said .entry))
+        (partCountCall (piece (now (sizes .entry)) (now (deltas .entry)) (now (words .entry)))) ⌝ }
+{
     match heads::part_count(sizes, deltas, words) {
-        PartCountAnswer::Refused(n) => {
-            said[0] = basics::wide(n);
-        }
-        PartCountAnswer::Given(count) => {
-            said[0] = 0;
-            said[1] = basics::wide(count);
-        }
+        PartCountAnswer::Refused(number) => say_refused(number, said),
+        PartCountAnswer::Given(count) => say_one(wide(count), said),
     }
 }
 
-pub fn part_head(sizes: &[u32], deltas: &[u32], words: &[u32], part: u32, said: &mut [u64; 8]) {
+pub fn part_head(sizes: &[u32], deltas: &[u32], words: &[u32], part: u32, said: &mut [u64])
+    requires { ⌜ 8 ≤ length (now said) ⌝ }
+    ensures { λ _. ⌜ now (said .exit) ≡ saying partHeadNumbers (now (said .entry))
+        (partHeadCall (piece (now (sizes .entry)) (now (deltas .entry)) (now (words .entry))) part) ⌝ }
+{
     match heads::part_head(sizes, deltas, words, part) {
-        PartHeadAnswer::Refused(n) => {
-            said[0] = basics::wide(n);
-        }
-        PartHeadAnswer::Given(h) => {
-            said[0] = 0;
-            said[1] = basics::wide(h.channel);
-            said[2] = basics::wide(h.program);
-        }
+        PartHeadAnswer::Refused(number) => say_refused(number, said),
+        PartHeadAnswer::Given(h) => say_two(wide(h.channel), wide(h.program), said),
     }
 }
 
 pub fn bars(
-    q: Asked,
     sizes: &[u32],
     deltas: &[u32],
     words: &[u32],
     starts: &mut [u64],
     marks: &mut [u64],
-    said: &mut [u64; 8],
-) {
-    let n = replayed::least(q.a, starts.len());
-    let m = replayed::least(q.b, marks.len());
-    match bars::bars(sizes, deltas, words, &mut starts[..n], &mut marks[..m]) {
-        BarsAnswer::Refused(number) => {
-            said[0] = basics::wide(number);
-        }
-        BarsAnswer::Given(count) => {
-            said[0] = 0;
-            said[1] = basics::wide(count);
-        }
+    said: &mut [u64],
+)
+    requires { ⌜ 8 ≤ length (now said) ⌝ }
+    ensures { λ _. ⌜ BarsCalled (saying countNumbers (now (said .entry)))
+        (barsCall (piece (now (sizes .entry)) (now (deltas .entry)) (now (words .entry))) (length (now (starts .entry))) (length (now (marks .entry))))
+        (now (starts .entry)) (now (marks .entry)) (now (said .exit)) (now (starts .exit)) (now (marks .exit)) ⌝ }
+{
+    match bars::bars(sizes, deltas, words, starts, marks) {
+        BarsAnswer::Refused(number) => say_refused(number, said),
+        BarsAnswer::Given(count) => say_one(wide(count), said),
     }
 }
 
-fn staff(answer: StaffAnswer, said: &mut [u64; 8]) {
+// A staff's size, or the number.
+fn say_size(answer: StaffAnswer, said: &mut [u64])
+    requires { ⌜ 8 ≤ length (now said) ⌝ }
+    ensures { λ _. ⌜ now (said .exit) ≡ saying sizeNumbers (now (said .entry)) (answerOf answer) ⌝ }
+{
     match answer {
-        StaffAnswer::Refused(n) => {
-            said[0] = basics::wide(n);
-        }
-        StaffAnswer::Given(size) => {
-            said[0] = 0;
-            said[1] = size.bars as u64;
-            said[2] = size.items as u64;
-        }
+        StaffAnswer::Refused(number) => say_refused(number, said),
+        StaffAnswer::Given(size) => say_two(size.bars as u64, size.items as u64, said),
     }
 }
 
 pub fn staff_size(
-    q: Asked,
     sizes: &[u32],
     deltas: &[u32],
     words: &[u32],
+    part: u32,
     work: &mut [u64],
-    said: &mut [u64; 8],
-) {
-    let n = replayed::least(q.work, work.len());
-    staff(
-        staffs::staff_size(sizes, deltas, words, q.part, &mut work[..n]),
-        said,
-    );
+    said: &mut [u64],
+)
+    requires { ⌜ 8 ≤ length (now said) ⌝ }
+    ensures { λ _. ⌜ StaffSizeCalled (saying sizeNumbers (now (said .entry)))
+        (staffSizeCall (piece (now (sizes .entry)) (now (deltas .entry)) (now (words .entry))) part (length (now (work .entry))))
+        (now (work .entry)) (now (said .exit)) (now (work .exit)) ⌝ }
+{
+    say_size(staffs::staff_size(sizes, deltas, words, part, work), said);
 }
 
 pub fn engrave(
-    q: Asked,
     sizes: &[u32],
     deltas: &[u32],
     words: &[u32],
+    part: u32,
     counts: &mut [u32],
     heads: &mut [u32],
     keys: &mut [u64],
     work: &mut [u64],
-    said: &mut [u64; 8],
-) {
-    let c = replayed::least(q.c, counts.len());
-    let h = replayed::least(q.d, heads.len());
-    let k = replayed::least(q.a, keys.len());
-    let w = replayed::least(q.work, work.len());
-    let answer = staffs::engrave(
-        sizes,
-        deltas,
-        words,
-        q.part,
-        &mut counts[..c],
-        &mut heads[..h],
-        &mut keys[..k],
-        &mut work[..w],
+    said: &mut [u64],
+)
+    requires { ⌜ 8 ≤ length (now said) ⌝ }
+    ensures { λ _. ⌜ EngraveCalled (saying sizeNumbers (now (said .entry)))
+        (partSize (piece (now (sizes .entry)) (now (deltas .entry)) (now (words .entry))) part)
+        (engraveCall (piece (now (sizes .entry)) (now (deltas .entry)) (now (words .entry))) part
+        (length (now (counts .entry))) (length (now (heads .entry))) (length (now (keys .entry))) (length (now (work .entry))))
+        (now (counts .entry)) (now (heads .entry)) (now (keys .entry)) (now (work .entry))
+        (now (said .exit)) (now (counts .exit)) (now (heads .exit)) (now (keys .exit)) (now (work .exit)) ⌝ }
+{
+    say_size(
+        staffs::engrave(sizes, deltas, words, part, counts, heads, keys, work),
+        said,
     );
-    staff(answer, said);
-}
-
-fn automation_values(counts: Counts, said: &mut [u64; 8]) {
-    said[0] = 0;
-    said[1] = counts.bends as u64;
-    said[2] = counts.controllers as u64;
-    said[3] = counts.programs as u64;
-    said[4] = counts.pressures as u64;
 }
 
 pub fn automation(
-    q: Asked,
     sizes: &[u32],
     deltas: &[u32],
     words: &[u32],
+    part: u32,
     ticks: &mut [u64],
     out: &mut [u32],
-    said: &mut [u64; 8],
-) {
-    let n = replayed::least(q.a, ticks.len());
-    let m = replayed::least(q.c, out.len());
-    match automation::automation(sizes, deltas, words, q.part, &mut ticks[..n], &mut out[..m]) {
-        AutomationAnswer::Refused(number) => {
-            said[0] = basics::wide(number);
-        }
-        AutomationAnswer::Given(counts) => {
-            automation_values(counts, said);
-        }
+    said: &mut [u64],
+)
+    requires { ⌜ 8 ≤ length (now said) ⌝ }
+    ensures { λ _. ⌜ AutomationCalled (saying automationNumbers (now (said .entry)))
+        (automationCall (piece (now (sizes .entry)) (now (deltas .entry)) (now (words .entry))) part (length (now (ticks .entry))) (length (now (out .entry))))
+        (now (ticks .entry)) (now (out .entry)) (now (said .exit)) (now (ticks .exit)) (now (out .exit)) ⌝ }
+{
+    match automation::automation(sizes, deltas, words, part, ticks, out) {
+        AutomationAnswer::Refused(number) => say_refused(number, said),
+        AutomationAnswer::Given(n) => replay_answers::say_four(
+            n.bends as u64,
+            n.controllers as u64,
+            n.programs as u64,
+            n.pressures as u64,
+            said,
+        ),
     }
 }
 
 pub fn diagnostics(
-    q: Asked,
     sizes: &[u32],
     deltas: &[u32],
     words: &[u32],
     places: &mut [u64],
     details: &mut [u64],
     work: &mut [u64],
-    said: &mut [u64; 8],
-) {
-    let n = replayed::least(q.a, places.len());
-    let m = replayed::least(q.b, details.len());
-    let w = replayed::least(q.work, work.len());
-    match diagnostics::diagnostics(
-        sizes,
-        deltas,
-        words,
-        &mut places[..n],
-        &mut details[..m],
-        &mut work[..w],
-    ) {
-        DiagnosticsAnswer::Refused(number) => {
-            said[0] = basics::wide(number);
-        }
-        DiagnosticsAnswer::Given(count) => {
-            said[0] = 0;
-            said[1] = basics::wide(count);
-        }
+    said: &mut [u64],
+)
+    requires { ⌜ 8 ≤ length (now said) ⌝ }
+    ensures { λ _. ⌜ DiagnosticsCalled (saying countNumbers (now (said .entry)))
+        (diagnosticsCall (piece (now (sizes .entry)) (now (deltas .entry)) (now (words .entry)))
+        (length (now (places .entry))) (length (now (details .entry))) (length (now (work .entry))))
+        (now (places .entry)) (now (details .entry)) (now (work .entry))
+        (now (said .exit)) (now (places .exit)) (now (details .exit)) (now (work .exit)) ⌝ }
+{
+    match diagnostics::diagnostics(sizes, deltas, words, places, details, work) {
+        DiagnosticsAnswer::Refused(number) => say_refused(number, said),
+        DiagnosticsAnswer::Given(count) => say_one(wide(count), said),
+    }
+}
+
+pub fn proof_read(
+    sizes: &[u32],
+    deltas: &[u32],
+    words: &[u32],
+    part: u32,
+    counts: &[u32],
+    heads: &[u32],
+    keys: &[u64],
+    work: &mut [u64],
+    said: &mut [u64],
+)
+    requires { ⌜ 8 ≤ length (now said) ⌝ }
+    ensures { λ _. ⌜ ProofReadCalled (saying readNumbers (now (said .entry)))
+        (proofReadCall (piece (now (sizes .entry)) (now (deltas .entry)) (now (words .entry))) part
+        (record { counts = now (counts .entry); heads = now (heads .entry); keys = now (keys .entry) }) (length (now (work .entry))))
+        (now (work .entry)) (now (said .exit)) (now (work .exit)) ⌝ }
+{
+    match proofread::proof_read(sizes, deltas, words, part, counts, heads, keys, work) {
+        ReadAnswer::Refused(number) => say_refused(number, said),
+        ReadAnswer::Given(right) => say_one(right as u64, said),
     }
 }

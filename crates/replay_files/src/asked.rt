@@ -1,124 +1,178 @@
 // One call of the list: arrays filled with other numbers, the call made, and all that it left compared with the list.
-use files::PieceAnswer;
-use replay_text::CODE;
-use replay_text::FAULT;
+ghost use Prim.Native.Nat.{_≤_};
+ghost use lib.ListN.{length};
+use replay_lines::FILES;
+use replay_text::Cursor;
+use replay_text::LONG;
+use replayed::Difference;
 
-// A call that is asked: its number, and the room of each array that is lent to it.
+// A call that is asked: its number, the room of each array that is lent to it, and the place behind its head.
 struct Asked {
     code: usize,
     sizes: usize,
     deltas: usize,
     words: usize,
+    next: Cursor,
 }
 
 // The next call.
-fn next(buf: &mut [u8; 65536], st: &mut [usize; 9]) -> Asked {
-    let code = replay_text::limited(buf, st, 99);
-    let sizes = replay_text::limited(buf, st, 4096);
-    let deltas = replay_text::limited(buf, st, 4096);
-    let words = replay_text::limited(buf, st, 4096);
-    st[CODE] = code;
+fn next_call(text: &[u8], p: Cursor) -> Asked
+    ensures { λ r. ⌜ (r .sizes ≤ 4096) × (r .deltas ≤ 4096) × (r .words ≤ 4096) ⌝ }
+{
+    let code = replay_text::bounded(text, p, true, 99, LONG);
+    let sizes = replay_text::bounded(text, code.next, true, 4096, LONG);
+    let deltas = replay_text::bounded(text, sizes.next, true, 4096, LONG);
+    let words = replay_text::bounded(text, deltas.next, true, 4096, LONG);
+    let next = words.next;
     Asked {
+        code: code.value as usize,
+        sizes: sizes.value as usize,
+        deltas: deltas.value as usize,
+        words: words.value as usize,
+        next,
+    }
+}
+
+// What a call left, against the text: the first difference of the answer and of each list, and the place behind the call.
+pub struct Compared {
+    pub code: usize,
+    pub said: Difference,
+    pub sizes: Difference,
+    pub deltas: Difference,
+    pub words: Difference,
+    pub next: Cursor,
+}
+
+// Nothing is compared where the call could not be read.
+fn unread(code: usize, next: Cursor) -> Compared {
+    Compared {
         code,
-        sizes,
-        deltas,
-        words,
+        said: Difference::Nothing,
+        sizes: Difference::Nothing,
+        deltas: Difference::Nothing,
+        words: Difference::Nothing,
+        next,
     }
 }
 
-// An answer as numbers: the refusal's, or 0 and the values.
-fn answered(answer: PieceAnswer, said: &mut [u64; 8]) {
-    match answer {
-        PieceAnswer::Refused(n) => {
-            said[0] = basics::wide(n);
-        }
-        PieceAnswer::Given(size) => {
-            said[0] = 0;
-            said[1] = size.sizes as u64;
-            said[2] = size.events as u64;
-        }
-    }
-}
-
-// Reads a file, in the room asked.
-fn read(
-    q: Asked,
-    bytes: &[u8],
-    sizes: &mut [u32],
-    deltas: &mut [u32],
-    words: &mut [u32],
-) -> PieceAnswer {
-    let s = replayed::least(q.sizes, sizes.len());
-    let d = replayed::least(q.deltas, deltas.len());
-    let w = replayed::least(q.words, words.len());
-    files::read(bytes, &mut sizes[..s], &mut deltas[..d], &mut words[..w])
-}
-
-// Makes the call by its number.
-fn call(
-    q: Asked,
-    bytes: &[u8],
-    sizes: &mut [u32],
-    deltas: &mut [u32],
-    words: &mut [u32],
-    said: &mut [u64; 8],
-) {
-    let code = q.code;
-    match code {
-        9 => answered(files::read_size(bytes), said),
-        10 => answered(read(q, bytes, sizes, deltas, words), said),
-        _ => {}
-    }
-}
-
-// Makes the call in arrays whose fronts, of the room asked, are full of other numbers.
+// Makes the call in arrays full of other numbers.
 fn make(
-    q: Asked,
+    code: usize,
     bytes: &[u8],
+    said: &mut [u64],
     sizes: &mut [u32],
     deltas: &mut [u32],
     words: &mut [u32],
-    said: &mut [u64; 8],
-) {
+)
+    requires { ⌜ 8 ≤ length (now said) ⌝ }
+{
     replayed::fill(said);
-    replayed::fill_front_narrow(sizes, q.sizes);
-    replayed::fill_front_narrow(deltas, q.deltas);
-    replayed::fill_front_narrow(words, q.words);
-    call(q, bytes, sizes, deltas, words, said);
+    replayed::fill_narrow(sizes);
+    replayed::fill_narrow(deltas);
+    replayed::fill_narrow(words);
+    replay_file_calls::call(code, bytes, sizes, deltas, words, said);
 }
 
-// What the call left, against the list: its answer and three arrays, each in the room asked.
+// What the call left, against the text.
 fn compare(
-    buf: &mut [u8; 65536],
-    st: &mut [usize; 9],
-    want: &mut [u64; 4096],
-    q: Asked,
-    said: &[u64; 8],
+    text: &[u8],
+    code: usize,
+    p: Cursor,
+    scratch: &mut [u64],
+    said: &[u64],
     sizes: &[u32],
     deltas: &[u32],
     words: &[u32],
-) {
-    replay_text::check(buf, st, want, said, 0);
-    replay_text::check_narrow(buf, st, want, replayed::front_narrow(sizes, q.sizes), 1);
-    replay_text::check_narrow(buf, st, want, replayed::front_narrow(deltas, q.deltas), 2);
-    replay_text::check_narrow(buf, st, want, replayed::front_narrow(words, q.words), 3);
+) -> Compared
+    requires { ⌜ (length (now said) ≤ length (now scratch)) × (length (now sizes) ≤ length (now scratch))
+        × (length (now deltas) ≤ length (now scratch)) × (length (now words) ≤ length (now scratch)) ⌝ }
+{
+    let answer = replay_text::check(text, p, scratch, said);
+    let first = replay_text::check_narrow(text, answer.next, scratch, sizes);
+    let second = replay_text::check_narrow(text, first.next, scratch, deltas);
+    let third = replay_text::check_narrow(text, second.next, scratch, words);
+    let in_said = answer.found;
+    let in_sizes = first.found;
+    let in_deltas = second.found;
+    let in_words = third.found;
+    let next = third.next;
+    Compared {
+        code,
+        said: in_said,
+        sizes: in_sizes,
+        deltas: in_deltas,
+        words: in_words,
+        next,
+    }
 }
 
-// Reads the next call, makes it and compares.
-pub fn one(
-    buf: &mut [u8; 65536],
-    st: &mut [usize; 9],
+// Makes the call and compares all that it left.
+fn ask(
+    text: &[u8],
+    code: usize,
+    p: Cursor,
     bytes: &[u8],
-    want: &mut [u64; 4096],
+    scratch: &mut [u64],
+    said: &mut [u64],
     sizes: &mut [u32],
     deltas: &mut [u32],
     words: &mut [u32],
-) {
-    let q = next(buf, st);
-    if st[FAULT] != 0 {
-        return;
+) -> Compared
+    requires { ⌜ (8 ≤ length (now said)) × (length (now said) ≤ length (now scratch)) × (length (now sizes) ≤ length (now scratch))
+        × (length (now deltas) ≤ length (now scratch)) × (length (now words) ≤ length (now scratch)) ⌝ }
+{
+    make(code, bytes, said, sizes, deltas, words);
+    compare(text, code, p, scratch, said, sizes, deltas, words)
+}
+
+// The next call of the text: read, made on a file, and compared.
+pub fn one(
+    text: &[u8],
+    p: Cursor,
+    bytes: &[u8],
+    scratch: &mut [u64],
+    sizes: &mut [u32],
+    deltas: &mut [u32],
+    words: &mut [u32],
+) -> Compared
+    requires { ⌜ (4096 ≤ length (now scratch)) × (4096 ≤ length (now sizes)) × (4096 ≤ length (now deltas)) × (4096 ≤ length (now words)) ⌝ }
+{
+    let q = next_call(text, p);
+    let behind = q.next;
+    if behind.fault != 0 {
+        return unread(q.code, behind);
     }
     let mut said = [0u64; 8];
-    make(q, bytes, sizes, deltas, words, &mut said);
-    compare(buf, st, want, q, &said, sizes, deltas, words);
+    let s = q.sizes;
+    let d = q.deltas;
+    let w = q.words;
+    ask(
+        text,
+        q.code,
+        behind,
+        bytes,
+        scratch,
+        &mut said,
+        &mut sizes[..s],
+        &mut deltas[..d],
+        &mut words[..w],
+    )
+}
+
+// How many of the four differ, with a line for each.
+pub fn count_wrong(item: u64, call: u64, r: Compared) -> u64
+    ensures { λ n. ⌜ n ≤ 4 ⌝ }
+{
+    let said = r.said;
+    let sizes = r.sizes;
+    let deltas = r.deltas;
+    let words = r.words;
+    replay_lines::differs(FILES, item, call, r.code, 0, said);
+    replay_lines::differs(FILES, item, call, r.code, 1, sizes);
+    replay_lines::differs(FILES, item, call, r.code, 2, deltas);
+    replay_lines::differs(FILES, item, call, r.code, 3, words);
+    replayed::different(said)
+        + replayed::different(sizes)
+        + replayed::different(deltas)
+        + replayed::different(words)
 }

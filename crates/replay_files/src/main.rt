@@ -2,80 +2,229 @@
 // full of other numbers, and writes a line for each answer or array that is not the list's. docs/REPLAY.md has the form.
 mod asked;
 
-use replay_text::CALL;
-use replay_text::CALLS;
-use replay_text::FAULT;
-use replay_text::FILES;
-use replay_text::KIND;
-use replay_text::PIECE;
+use libc::STDIN_FILENO;
+use replay_lines::FILES;
+use replay_text::Cursor;
+use replay_text::LONG;
+ghost use Prim.Native.Nat.{_≤_};
+ghost use lib.ListN.{length};
 
-// The calls of a file, in arrays that are lent to each.
-fn each_call(
-    buf: &mut [u8; 65536],
-    st: &mut [usize; 9],
-    bytes: &[u8],
-    want: &mut [u64; 4096],
-    sizes: &mut [u32; 4096],
-    deltas: &mut [u32; 4096],
-    words: &mut [u32; 4096],
-) {
-    let count = replay_text::number(buf, st, true);
-    let mut i: u64 = 0;
-    while i < count {
-        if st[FAULT] != 0 {
-            break;
-        }
-        st[CALL] = i as usize;
-        asked::one(buf, st, bytes, want, sizes, deltas, words);
-        replay_text::count(st, CALLS);
-        i += 1;
+// How far the list is replayed: the place in it, the calls made, and the disagreements.
+struct Tally {
+    next: Cursor,
+    calls: u64,
+    wrong: u64,
+}
+
+// So many more, up to a number that no list reaches.
+fn more(count: u64, n: u64) -> u64
+    requires { ⌜ n ≤ 4 ⌝ }
+{
+    if count < 1000000000000 {
+        count + n
+    } else {
+        count
     }
 }
 
-// The calls of a file, which is so many bytes of an array's front.
-fn calls_of(buf: &mut [u8; 65536], st: &mut [usize; 9], bytes: &[u8], n: usize) {
-    let m = replayed::least(n, bytes.len());
-    let mut want = [0u64; 4096];
+// One call.
+fn call(
+    text: &[u8],
+    tally: Tally,
+    item: u64,
+    number: u64,
+    bytes: &[u8],
+    scratch: &mut [u64],
+    sizes: &mut [u32],
+    deltas: &mut [u32],
+    words: &mut [u32],
+) -> Tally
+    requires { ⌜ (4096 ≤ length (now scratch)) × (4096 ≤ length (now sizes)) × (4096 ≤ length (now deltas)) × (4096 ≤ length (now words)) ⌝ }
+{
+    let r = asked::one(text, tally.next, bytes, scratch, sizes, deltas, words);
+    let next = r.next;
+    let wrong = asked::count_wrong(item, number, r);
+    Tally {
+        next,
+        calls: more(tally.calls, 1),
+        wrong: more(tally.wrong, wrong),
+    }
+}
+
+// The smaller.
+fn least(a: usize, b: usize) -> usize
+    ensures { λ r. ⌜ r ≤ b ⌝ }
+{
+    if a < b { a } else { b }
+}
+
+// The calls of a file.
+fn each_call(
+    text: &[u8],
+    from: Tally,
+    item: u64,
+    bytes: &[u8],
+    scratch: &mut [u64],
+    sizes: &mut [u32],
+    deltas: &mut [u32],
+    words: &mut [u32],
+) -> Tally
+    requires { ⌜ (4096 ≤ length (now scratch)) × (4096 ≤ length (now sizes)) × (4096 ≤ length (now deltas)) × (4096 ≤ length (now words)) ⌝ }
+{
+    let n = replay_text::number(text, from.next, true);
+    let count = n.value;
+    let next = n.next;
+    let mut tally = Tally {
+        next,
+        calls: from.calls,
+        wrong: from.wrong,
+    };
+    let mut i: u64 = 0;
+    while i < count {
+        let p = tally.next;
+        if p.fault != 0 {
+            break;
+        }
+        tally = call(text, tally, item, i, bytes, scratch, sizes, deltas, words);
+        i += 1;
+    }
+    tally
+}
+
+// A file's number, which is the next: how many disagree.
+fn item_number(text: &[u8], p: Cursor, item: u64) -> u64
+    ensures { λ n. ⌜ n ≤ 4 ⌝ }
+{
+    let n = replay_text::number(text, p, true);
+    let behind = n.next;
+    if behind.fault != 0 {
+        return 0;
+    }
+    if n.value == item {
+        return 0;
+    }
+    replay_lines::another(FILES, item);
+    1
+}
+
+// A file: its bytes, then its calls.
+fn file(
+    text: &[u8],
+    tally: Tally,
+    item: u64,
+    bytes: &mut [u8],
+    scratch: &mut [u64],
+    sizes: &mut [u32],
+    deltas: &mut [u32],
+    words: &mut [u32],
+) -> Tally
+    requires { ⌜ (4096 ≤ length (now scratch)) × (4096 ≤ length (now sizes)) × (4096 ≤ length (now deltas)) × (4096 ≤ length (now words)) ⌝ }
+{
+    let other = item_number(text, tally.next, item);
+    let n = replay_text::number(text, tally.next, true);
+    let l = replay_text::byte_list(text, n.next, bytes);
+    let next = l.next;
+    let m = least(l.count, bytes.len());
+    let behind = Tally {
+        next,
+        calls: tally.calls,
+        wrong: more(tally.wrong, other),
+    };
+    each_call(
+        text,
+        behind,
+        item,
+        &bytes[..m],
+        scratch,
+        sizes,
+        deltas,
+        words,
+    )
+}
+
+// What stands at the end, behind so many files: how many disagree.
+fn end(text: &[u8], p: Cursor, files: u64) -> u64
+    ensures { λ n. ⌜ n ≤ 4 ⌝ }
+{
+    let last = if 0 < files { files - 1 } else { 0 };
+    if p.fault != 0 {
+        replay_lines::fault(FILES, last, p.fault);
+        return 1;
+    }
+    let n = replay_text::number(text, p, true);
+    let behind = n.next;
+    if behind.fault == replay_text::ENDS {
+        return 0;
+    }
+    replay_lines::more(FILES, last);
+    1
+}
+
+// The whole list.
+fn replay(
+    text: &[u8],
+    bytes: &mut [u8],
+    scratch: &mut [u64],
+    sizes: &mut [u32],
+    deltas: &mut [u32],
+    words: &mut [u32],
+)
+    requires { ⌜ (4096 ≤ length (now scratch)) × (4096 ≤ length (now sizes)) × (4096 ≤ length (now deltas)) × (4096 ≤ length (now words)) ⌝ }
+{
+    let n = replay_text::number(text, Cursor { at: 0, fault: 0 }, true);
+    let count = n.value;
+    let next = n.next;
+    let mut tally = Tally {
+        next,
+        calls: 0,
+        wrong: 0,
+    };
+    let mut i: u64 = 0;
+    while i < count {
+        let p = tally.next;
+        if p.fault != 0 {
+            break;
+        }
+        tally = file(text, tally, i, bytes, scratch, sizes, deltas, words);
+        i += 1;
+    }
+    let wrong = more(tally.wrong, end(text, tally.next, i));
+    replay_lines::total(FILES, i, tally.calls, wrong);
+}
+
+// The list of standard input. One that fills the room for it is not held whole.
+fn read(
+    text: &mut [u8],
+    bytes: &mut [u8],
+    scratch: &mut [u64],
+    sizes: &mut [u32],
+    deltas: &mut [u32],
+    words: &mut [u32],
+)
+    requires { ⌜ (4096 ≤ length (now scratch)) × (4096 ≤ length (now sizes)) × (4096 ≤ length (now deltas)) × (4096 ≤ length (now words)) ⌝ }
+{
+    let n = io::read_full(STDIN_FILENO, text);
+    if n == text.len() {
+        replay_lines::fault(FILES, 0, LONG);
+        replay_lines::total(FILES, 0, 0, 1);
+        return;
+    }
+    replay(&text[..n], bytes, scratch, sizes, deltas, words);
+}
+
+fn main() {
+    let mut text = [0u8; 1000000];
+    let mut bytes = [0u8; 8192];
+    let mut scratch = [0u64; 4096];
     let mut sizes = [0u32; 4096];
     let mut deltas = [0u32; 4096];
     let mut words = [0u32; 4096];
-    each_call(
-        buf,
-        st,
-        &bytes[..m],
-        &mut want,
+    read(
+        &mut text,
+        &mut bytes,
+        &mut scratch,
         &mut sizes,
         &mut deltas,
         &mut words,
     );
-}
-
-// A file: its bytes, then its calls.
-fn file(buf: &mut [u8; 65536], st: &mut [usize; 9], bytes: &mut [u8; 8192]) {
-    replay_text::item_number(buf, st);
-    let n = replay_text::byte_list(buf, st, bytes);
-    calls_of(buf, st, bytes, n);
-}
-
-// The whole list.
-fn replay(buf: &mut [u8; 65536], st: &mut [usize; 9], bytes: &mut [u8; 8192]) {
-    let count = replay_text::number(buf, st, true);
-    let mut i: u64 = 0;
-    while i < count {
-        if st[FAULT] != 0 {
-            break;
-        }
-        st[PIECE] = i as usize;
-        file(buf, st, bytes);
-        i += 1;
-    }
-    replay_text::finish(buf, st, i);
-}
-
-fn main() {
-    let mut buf = [0u8; 65536];
-    let mut st = [0usize; 9];
-    let mut bytes = [0u8; 8192];
-    st[KIND] = FILES;
-    replay(&mut buf, &mut st, &mut bytes);
 }

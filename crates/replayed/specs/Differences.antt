@@ -13,6 +13,11 @@ difference k [] (y ∷ ys) = At k
 difference k (x ∷ xs) [] = At k
 difference k (x ∷ xs) (y ∷ ys) = cond (eqb x y) (difference (k + 1) xs ys) (At k)
 
+-- 1 where there is one
+abbrev pub bit : Difference → ℕ
+bit (At i) = 1
+bit Nothing = 0
+
 -- what stands at an index before a call: never 0, and another number at each index up to 65,535
 abbrev pub other : ℕ → ℕ
 other k = 4000000000 + k % 65536

@@ -1,9 +1,10 @@
-// What the program `replay` does on slices: decimals read from a text byte by byte, numbers put into arrays before they are lent, and the first index at which two lists differ.
+// What a replay does on slices: decimals read from a text byte by byte, numbers put into arrays before they are lent, and the first index at which lists differ.
 ghost use Prim.Native.Nat.{_≤_};
 ghost use mathlib.Core.Path.{_≡_};
+ghost use mathlib.Core.List.{_++_};
 ghost use lib.ListN.{length, drop, replicate};
 ghost use Rattle.replayed.specs.Decimals.{digit, begunBy, goneOnBy, stepped, ended, scanned};
-ghost use Rattle.replayed.specs.Differences.{others, difference};
+ghost use Rattle.replayed.specs.Differences.{others, bit, difference};
 
 // What is known of a number while its text is read.
 pub enum Scanned {
@@ -145,54 +146,28 @@ fn clear(l: &mut [u32])
     }
 }
 
-// Fills so many numbers of an array's front.
-pub fn fill_front(l: &mut [u64], n: usize) {
-    let m = least(n, l.len());
-    fill(&mut l[..m]);
-}
-
-pub fn fill_front_narrow(l: &mut [u32], n: usize) {
-    let m = least(n, l.len());
-    fill_narrow(&mut l[..m]);
-}
-
 // Zeroes so many numbers of an array's front.
-pub fn clear_front(l: &mut [u32], n: usize) {
-    let m = least(n, l.len());
-    clear(&mut l[..m]);
-}
-
-// A call that is asked: its number, its part, and the room of each array that is lent to it.
-pub struct Asked {
-    pub code: usize,
-    pub part: u32,
-    pub a: usize,
-    pub b: usize,
-    pub c: usize,
-    pub d: usize,
-    pub work: usize,
-}
-
-pub fn least(a: usize, b: usize) -> usize
-    ensures { λ r. ⌜ r ≤ b ⌝ }
+pub fn clear_front(l: &mut [u32], n: usize)
+    requires { ⌜ n ≤ length (now l) ⌝ }
+    ensures { λ _. ⌜ now (l .exit) ≡ replicate n 0 ++ drop n (now (l .entry)) ⌝ }
 {
-    if a < b { a } else { b }
-}
-
-// So many numbers of an array's front, or the whole array where it has fewer.
-pub fn front(l: &[u64], n: usize) -> &[u64] {
-    let m = least(n, l.len());
-    &l[..m]
-}
-
-pub fn front_narrow(l: &[u32], n: usize) -> &[u32] {
-    let m = least(n, l.len());
-    &l[..m]
+    clear(&mut l[..n]);
 }
 
 pub enum Difference {
     At(usize),
     Nothing,
+}
+
+// 1 where there is a difference.
+pub fn different(d: Difference) -> u64
+    ensures is { λ r. ⌜ r ≡ bit d ⌝ }
+    ensures few { λ r. ⌜ r ≤ 1 ⌝ }
+{
+    match d {
+        Difference::At(_) => 1,
+        Difference::Nothing => 0,
+    }
 }
 
 // The first index at which two lists differ: in a number, or since one has ended.

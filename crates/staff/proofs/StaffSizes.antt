@@ -1,9 +1,9 @@
 -- Staffs by their bars: one bar more, how many items there are, and how long a bar can be.
 use Prim.Native.Nat.{ℕ, suc, _+_, _-_, _*_, _/_, _≤_, _<_, _^_}
-use mathlib.Core.Bool.{Bool, false}
-use mathlib.Core.List.{List, [], _∷_, _++_, map, flatten, map-append, append-nil, append-assoc}
+use mathlib.Core.Bool.{Bool}
+use mathlib.Core.List.{List, [], _∷_, _++_, map, flatten, map-append, append-nil}
 use mathlib.Core.Logic.{inl, inr}
-use mathlib.Core.Path.{_≡_, refl, sym, ap, _∙_}
+use mathlib.Core.Path.{_≡_, refl}
 use native.Mathlib.Nat.{mod-lt, mul-le-mul, div-le-self}
 use native.Mathlib.Omega.{arith}
 use lib.Dec.{eqb, leb}
@@ -18,18 +18,13 @@ use Rattle.rules.specs.Voices.{Chord}
 use Rattle.laws.specs.Lines.{Line}
 use Rattle.laws.specs.Sort.{count}
 use Rattle.laws.proofs.BarLaws.{bar-length}
-use Rattle.laws.proofs.Lists.{All-map, All-keep, All-all}
+use Rattle.laws.proofs.Lists.{All-map, All-keep, All-all, flatten-append}
 use Rattle.laws.proofs.Order.{by-lt}
 use Rattle.bar_voice.specs.Voices.{voiceOf, Skipped}
 use Rattle.staff.specs.Bars.{voicesOf, VoicesHeld, barVoice, barVoices}
 use Rattle.bar_voice.proofs.Few.{voice-few}
 
 -- ---- one bar more
-
-flatten-append : {A : Type 0} (xs ys : List (List A)) → flatten (xs ++ ys) ≡ flatten xs ++ flatten ys
-unfolding flatten
-flatten-append [] ys = refl
-flatten-append (x ∷ xs) ys = ap (λ l. x ++ l) (flatten-append xs ys) ∙ sym (append-assoc x (flatten xs) (flatten ys))
 
 -- the bar's voices as section 7 has them
 pub bar-voices : (p n : ℕ) (w lens : List ℕ) (b : Bar) → voicesIn p (voicesOf n w lens) b ≡ barVoices p n w lens (b .start) (barEnd b)

@@ -31,7 +31,7 @@ fn text(name: &str) -> Result<String, String> {
 }
 
 /// The same files as pieces.
-fn pieces() -> Result<Vec<Piece>, String> {
+pub fn pieces() -> Result<Vec<Piece>, String> {
     let text = text("pieces.txt")?;
     let lines: Vec<_> = text.lines().collect();
     let pieces = lines.chunks(3).map(|three| Piece::parse(&three.join("\n")));

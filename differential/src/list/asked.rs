@@ -1,4 +1,5 @@
-//! The calls that the list asks of a piece, with the room lent to each and the reference's answer.
+//! The calls that the list asks of a piece, with the room lent to each and the reference's answer. Proof-reading is in
+//! `readings`.
 
 use super::Entry;
 use crate::answers::{Import, Part};
@@ -11,11 +12,12 @@ pub struct Asked {
     pub room: [usize; 5],
     /// The refusal's number, or 0 and the values.
     pub answer: Vec<u64>,
-    /// What the first four arrays are to begin with.
+    /// What the first four arrays are to begin with; of proof-reading what they are given as.
     pub lists: [Vec<u64>; 4],
 }
 
 /// A call's name, its number, and the names of its lists, empty where it has none.
+#[derive(Clone, Copy)]
 pub struct Call(pub &'static str, pub u32, pub [&'static str; 4]);
 
 const NONE: [&str; 4] = [""; 4];
@@ -153,9 +155,8 @@ impl Asks {
     /// An answered call, with room to spare; where `narrow`, in every way.
     fn add(&mut self, call: Call, part: u32, answer: Vec<u64>, lists: [Vec<u64>; 4]) {
         let mut ask = |room, answer: &Vec<u64>, lists: &[Vec<u64>; 4]| {
-            let Call(name, number, names) = call;
             self.list.push(Asked {
-                call: Call(name, number, names),
+                call,
                 part,
                 room,
                 answer: answer.clone(),
@@ -198,6 +199,6 @@ fn room(call: &Call, lists: &[Vec<u64>; 4], spare: usize) -> [usize; 5] {
     room
 }
 
-fn wide(list: Vec<u32>) -> Vec<u64> {
+pub fn wide(list: Vec<u32>) -> Vec<u64> {
     list.into_iter().map(u64::from).collect()
 }

@@ -2,40 +2,79 @@
 //! `text` has the form; docs/REPLAY.md describes it.
 
 mod asked;
+mod calls;
+mod changes;
 mod choice;
+mod readings;
 mod text;
 
 use crate::answers::Answers;
 use crate::coverage::Report;
 use crate::examples::EXAMPLES;
+use crate::packed::Staff;
 use crate::piece::Piece;
+use crate::reader::Answer;
 use crate::{generate, reference};
+pub use calls::Calls;
+pub use changes::Changes;
 use choice::Choice;
+use std::fmt::{Display, Formatter, Result};
 pub use text::numbers;
 
-/// The list of a seed and what its pieces reach. The pieces are chosen from the first `count`.
-pub fn of_seed(seed: u64, count: u64) -> (String, Report) {
+/// What a list has: its pieces, the changed staffs that are given to proof-read, and its calls.
+pub struct Coverage {
+    pub pieces: Report,
+    pub changes: Changes,
+    pub calls: Calls,
+}
+
+/// The list of a seed and what it has. The pieces are chosen from the first `count`.
+pub fn of_seed(seed: u64, count: u64) -> (String, Coverage) {
     let examples = EXAMPLES.iter().map(|example| answered(example.piece()));
     let mut entries: Vec<_> = examples.collect();
     let generated = (0..count).map(|index| answered(generate::numbered(seed, index)));
     entries.extend(Choice::of(generated.collect()));
     entries.push(too_many_events());
-    let mut report = Report::default();
+    let changes = Changes::of(seed, &mut entries);
+    let mut pieces = Report::default();
     for entry in &entries {
-        report.add(&entry.piece, &entry.answers);
+        pieces.add(&entry.piece, &entry.answers);
     }
-    (text::list(&entries), report)
+    let (text, calls) = text::list(&entries);
+    let coverage = Coverage {
+        pieces,
+        changes,
+        calls,
+    };
+    (text, coverage)
 }
 
-/// A piece and the reference's answers to it.
+impl Display for Coverage {
+    fn fmt(&self, out: &mut Formatter) -> Result {
+        write!(out, "{}{}{}", self.pieces, self.changes, self.calls)
+    }
+}
+
+/// A piece, the reference's answers to it, and changed staffs of its parts.
 struct Entry {
     piece: Piece,
     answers: Answers,
+    changed: Vec<Changed>,
+}
+
+/// A changed staff of a part, with the plain proof-reader's answer.
+struct Changed {
+    part: u32,
+    staff: Staff,
+    answer: Answer,
 }
 
 fn answered(piece: Piece) -> Entry {
-    let answers = reference::answers(&piece);
-    Entry { piece, answers }
+    Entry {
+        answers: reference::answers(&piece),
+        piece,
+        changed: Vec::new(),
+    }
 }
 
 /// Number 3: one event above the most. All its events are of delta 0 and word 0, so that the text need not name them.

@@ -1,30 +1,36 @@
 //! The list's text: decimals, with labels that have no digit before them, each list after its length.
 
-use super::Entry;
 use super::asked::{self, Asked};
+use super::calls::Calls;
+use super::{Entry, readings};
 use std::fmt::{Display, Write};
 
 /// The pieces asked with exactly enough and with too little room, too: one in so many, of the shorter ones.
 const NARROW_EVERY: usize = 5;
 const NARROW_LONGEST: usize = 4_000;
 
-pub fn list(entries: &[Entry]) -> String {
+/// The text, and the calls that it has.
+pub fn list(entries: &[Entry]) -> (String, Calls) {
     let mut text = format!("pieces {}\n", entries.len());
+    let mut counted = Calls::default();
     for (index, entry) in entries.iter().enumerate() {
         let narrow = index % NARROW_EVERY == 0 && length(entry) <= NARROW_LONGEST;
-        piece(&mut text, index, entry, narrow);
+        let mut calls = asked::of(entry, narrow);
+        calls.extend(readings::of(entry, narrow));
+        calls.iter().for_each(|asked| counted.add(asked));
+        piece(&mut text, index, entry, &calls);
     }
-    text
+    (text, counted)
 }
 
-/// The length of a piece's text.
+/// The length of a piece's text without proof-reading.
 pub fn length(entry: &Entry) -> usize {
     let mut text = String::new();
-    piece(&mut text, 0, entry, false);
+    piece(&mut text, 0, entry, &asked::of(entry, false));
     text.len()
 }
 
-fn piece(text: &mut String, index: usize, entry: &Entry, narrow: bool) {
+fn piece(text: &mut String, index: usize, entry: &Entry, calls: &[Asked]) {
     let piece = &entry.piece;
     let events = piece.deltas.len().max(piece.words.len());
     let zeros = piece.deltas.iter().chain(&piece.words).all(|&n| n == 0) && events > 10_000;
@@ -34,9 +40,8 @@ fn piece(text: &mut String, index: usize, entry: &Entry, narrow: bool) {
     let shown = |list| if zeros { &[][..] } else { list };
     numbers(text, "deltas", shown(&piece.deltas));
     numbers(text, "words", shown(&piece.words));
-    let calls = asked::of(entry, narrow);
     writeln!(text, "calls {}", calls.len()).expect("a string");
-    for asked in &calls {
+    for asked in calls {
         call(text, asked);
     }
 }

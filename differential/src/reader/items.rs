@@ -34,6 +34,11 @@ impl Item {
     pub fn length(&self, quarter: u64) -> Option<u64> {
         values::length(self.code, self.dotted, quarter)
     }
+
+    /// The same where the value is right; of any other its whole ticks.
+    pub fn ticks(&self, quarter: u64) -> u64 {
+        values::ticks(self.code, self.dotted, quarter)
+    }
 }
 
 /// An item with its place in time.
@@ -44,9 +49,9 @@ pub struct Placed {
     pub item: Item,
 }
 
-/// "Bar by bar and voice by voice": four lists of items a bar. The arrays fit the counts.
+/// "Bar by bar and voice by voice": four lists of items a bar. Where the arrays do not fit the counts, as many as there are.
 pub fn lists(staff: &Staff) -> Vec<Vec<Item>> {
-    let keys = staff.keys.chunks(2);
+    let keys = staff.keys.chunks_exact(2);
     let items = staff.heads.iter().zip(keys);
     let mut items = items.map(|(&head, keys)| Item::new(head, keys[0], keys[1]));
     let counts = staff.counts.iter();
@@ -67,13 +72,13 @@ pub fn by_bar<'a>(
     bars.iter().zip(lists.chunks(4)).flat_map(of_bar)
 }
 
-/// "A voice's items follow one another from the bar's start." The values are right.
+/// "A voice's items follow one another from the bar's start."
 pub fn voices(quarter: u64, bars: &[Bar], lists: &[Vec<Item>]) -> [Vec<Placed>; 4] {
     let mut voices = [const { Vec::new() }; 4];
     for (bar, voice, items) in by_bar(bars, lists) {
         let mut start = bar.start;
         for &item in items {
-            let end = start + item.length(quarter).expect("a right value");
+            let end = start + item.ticks(quarter);
             voices[voice].push(Placed { start, end, item });
             start = end;
         }

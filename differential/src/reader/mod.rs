@@ -7,6 +7,7 @@ mod items;
 mod notes;
 mod playback;
 mod points;
+pub mod reasons;
 #[cfg(test)]
 mod tests;
 mod values;
@@ -93,7 +94,7 @@ pub fn read(part: &Part, staff: &Staff) -> Answer {
     if uneven(part) {
         return Answer::Uneven;
     }
-    match failing(part, staff) {
+    match failing(part, staff, None) {
         Some(point) => Answer::No(point),
         None => Answer::Yes,
     }
@@ -106,35 +107,42 @@ pub fn uneven(part: &Part) -> bool {
     grid % smallest != 0 || part.bars.iter().any(|bar| bar.length % smallest != 0)
 }
 
-/// The first point that fails, each asked where those before it hold.
-fn failing(part: &Part, staff: &Staff) -> Option<Point> {
+/// Whether only this point fails: a reader who leaves it out says yes.
+pub fn alone(part: &Part, staff: &Staff, point: Point) -> bool {
+    failing(part, staff, None) == Some(point) && failing(part, staff, Some(point)).is_none()
+}
+
+/// The first point that fails, each asked where those before it hold, but for the one that is left out.
+fn failing(part: &Part, staff: &Staff, left_out: Option<Point>) -> Option<Point> {
+    let fails = |point, holds: bool| !holds && left_out != Some(point);
     let Part { quarter, bars, .. } = part;
-    if points::malformed(bars, staff) {
+    if fails(Point::Malformed, !points::malformed(bars, staff)) {
         return Some(Point::Malformed);
     }
     let lists = items::lists(staff);
-    if !points::values(*quarter, &lists) {
+    if fails(Point::Values, points::values(*quarter, &lists)) {
         return Some(Point::Values);
     }
-    if !points::full(*quarter, bars, &lists) {
+    if fails(Point::Full, points::full(*quarter, bars, &lists)) {
         return Some(Point::Full);
     }
-    if !points::rests(&lists) {
+    if fails(Point::Rests, points::rests(&lists)) {
         return Some(Point::Rests);
     }
     let end = bars::end(bars);
     let voices = items::voices(*quarter, bars, &lists);
-    if !voices.iter().all(|voice| points::ties(voice, end)) {
+    let ties = voices.iter().all(|voice| points::ties(voice, end));
+    if fails(Point::Ties, ties) {
         return Some(Point::Ties);
     }
     let notes = notes::snapped(&part.notes, *quarter);
     let voices = voices.map(|voice| playback::chords(&voice));
-    if !points::found(&notes, end, &voices) {
+    if fails(Point::Found, points::found(&notes, end, &voices)) {
         return Some(Point::Found);
     }
-    if !points::not_invented(&notes, end, &voices) {
+    if fails(Point::Invented, points::not_invented(&notes, end, &voices)) {
         return Some(Point::Invented);
     }
     let ends = voices.iter().all(|voice| points::ends(&notes, end, voice));
-    (!ends).then_some(Point::Ends)
+    fails(Point::Ends, ends).then_some(Point::Ends)
 }

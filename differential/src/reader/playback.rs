@@ -17,15 +17,16 @@ impl Chord {
 }
 
 /// "An item without tie-in that is no rest opens a chord with its start and keys, one with tie-in prolongs the voice's last
-/// chord, and a chord's end is its last piece's." The ties are right, so that there is a last chord.
+/// chord, and a chord's end is its last piece's." Where the ties are right there is a last chord.
 pub fn chords(voice: &[Placed]) -> Vec<Chord> {
     let mut chords: Vec<Chord> = Vec::new();
     for &Placed { start, end, item } in voice.iter().filter(|placed| !placed.item.rest) {
-        if item.tie_in {
-            chords.last_mut().expect("a chord to prolong").end = end;
-        } else {
-            let keys = item.keys;
-            chords.push(Chord { start, end, keys });
+        match chords.last_mut() {
+            Some(last) if item.tie_in => last.end = end,
+            _ => {
+                let keys = item.keys;
+                chords.push(Chord { start, end, keys });
+            }
         }
     }
     chords

@@ -25,8 +25,8 @@ pub fn values(quarter: u64, lists: &[Vec<Item>]) -> bool {
 /// "Each voice that has items fills its bar, voice 0 always."
 pub fn full(quarter: u64, bars: &[Bar], lists: &[Vec<Item>]) -> bool {
     by_bar(bars, lists).all(|(bar, voice, items)| {
-        let lengths = items.iter().filter_map(|item| item.length(quarter));
-        items.is_empty() && voice != 0 || lengths.sum::<u64>() == bar.length
+        let ticks = items.iter().map(|item| item.ticks(quarter));
+        items.is_empty() && voice != 0 || ticks.sum::<u64>() == bar.length
     })
 }
 
@@ -53,12 +53,12 @@ pub fn ties(voice: &[Placed], staff_end: u64) -> bool {
 }
 
 /// The voice's item that ends at a tick. Its items are in order, so that there is one at most, found by halving.
-fn ending_at(voice: &[Placed], tick: u64) -> Option<&Item> {
+pub fn ending_at(voice: &[Placed], tick: u64) -> Option<&Item> {
     let index = voice.binary_search_by_key(&tick, |placed| placed.end);
     index.ok().map(|index| &voice[index].item)
 }
 
-fn starting_at(voice: &[Placed], tick: u64) -> Option<&Item> {
+pub fn starting_at(voice: &[Placed], tick: u64) -> Option<&Item> {
     let index = voice.binary_search_by_key(&tick, |placed| placed.start);
     index.ok().map(|index| &voice[index].item)
 }

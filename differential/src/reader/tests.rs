@@ -1,10 +1,11 @@
 //! The smallest staffs that reach each point, and lists compared with the reference's.
 
 use super::notes::snapped;
-use super::{Answer, Bar, Note, Part, Point, grid, parts, read, values};
+use super::{Answer, Bar, Note, Part, Point, alone, grid, parts, read, reasons, values};
+use crate::mutate::{self, Sources};
 use crate::packed::{self, Staff};
 use crate::piece::{Piece, word};
-use crate::{generate, reference};
+use crate::{generate, proofread, reference};
 
 const DOT: u32 = 1 << 4;
 const TIE_IN: u32 = 1 << 5;
@@ -311,6 +312,77 @@ fn lists_are_the_references() {
             ours.sort();
             theirs.sort();
             assert_eq!(ours, theirs, "piece 1 {index}");
+        }
+    }
+}
+
+/// A point fails alone where all the others hold.
+#[test]
+fn points_fail_alone() {
+    let rest = (HALF | DOT | REST, 0);
+    let is_alone = |point, staff: Staff| {
+        fails(point, staff.clone());
+        alone(&printed(), &staff, point)
+    };
+    let mut long = line(&[(QUARTER, C4), rest]);
+    long.counts.push(0);
+    assert!(is_alone(Point::Malformed, long));
+    let short = [(9, C4), rest];
+    assert!(!is_alone(Point::Values, line(&short)));
+    assert!(is_alone(Point::Full, line(&[(QUARTER, C4)])));
+    assert!(is_alone(
+        Point::Full,
+        bar([&[(QUARTER, C4), rest], &[rest], &[], &[]])
+    ));
+    assert!(is_alone(
+        Point::Rests,
+        line(&[(QUARTER, C4), (rest.0 | UNPITCHED, 0)])
+    ));
+    assert!(!is_alone(
+        Point::Rests,
+        line(&[(QUARTER, C4), (rest.0 | TIE_IN, 0)])
+    ));
+    assert!(is_alone(
+        Point::Ties,
+        line(&[(QUARTER | TIE_OUT, C4), rest])
+    ));
+    assert!(!is_alone(Point::Found, line(&[(QUARTER, C4 << 1), rest])));
+    assert!(is_alone(Point::Found, line(&[(WHOLE | REST, 0)])));
+    assert!(is_alone(Point::Invented, line(&[(QUARTER, C4 * 3), rest])));
+    assert!(is_alone(Point::Ends, line(&[(HALF, C4), (HALF | REST, 0)])));
+    // Yes is no failing point.
+    assert!(!alone(
+        &printed(),
+        &line(&[(QUARTER, C4), rest]),
+        Point::Ends
+    ));
+}
+
+/// Changed staffs: a no has reasons.
+#[test]
+fn every_no_has_a_reason() {
+    for index in 0..300 {
+        let piece = generate::short(1, index);
+        let Ok(import) = reference::import(&piece) else {
+            continue;
+        };
+        let staffs = packed::staffs(&import);
+        let mut random = proofread::random(1, index);
+        for (number, part) in parts(&piece, &packed::bars(&import.bars))
+            .iter()
+            .enumerate()
+        {
+            let sources = Sources {
+                staffs: &staffs,
+                part: number,
+                another: &staffs[0],
+            };
+            for _ in 0..20 {
+                let (_, staff) = mutate::some(&mut random, &sources);
+                if let Answer::No(point) = read(part, &staff) {
+                    assert_ne!(reasons::of(part, &staff, point), [""; 0], "{point:?}");
+                }
+            }
         }
     }
 }

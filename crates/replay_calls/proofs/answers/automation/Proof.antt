@@ -1,29 +1,25 @@
--- `replay_calls::answers::automation` is safe: each array's part is at most the whole.
-use mathlib.Core.Path.{sym}
-use lib.Seq.{length-take-le}
+-- `automation`: the number, or the four counts; the outputs are those of the call.
 use borrow.Author.Needs.{needs}
+use Rattle.replay_calls.proofs.Told.{automation-told}
 use Rattle.replay_calls.proofs.answers.automation.Statement.{statement}
 use Rattle.replay_calls.proofs.answers.automation.Tie as tie
+
+returns : tie.Need-returns
+returns c =
+    let at-said = c .before .before in
+    let at-arm = at-said .before .before .before in
+    let at-call = at-arm .before .before .before .before .before .before in
+    automation-told (at-call .automation .ensures) (rw (at-arm .number .given .1) (at-said .say-refused .ensures))
+
+returns-2 : tie.Need-returns-2
+returns-2 c =
+    let at-said = c .before .before in
+    let at-arm = at-said .before .before .before in
+    let at-call = at-arm .before .before .before .before .before .before in
+    automation-told (at-call .automation .ensures) (rw (at-arm .n .given .1) (at-said .say-four .ensures))
 
 pub automation-spec : {M : Type 1} → statement M
 automation-spec =
     tie.close
-    (tie.spec
-    (λ c κs. search needs)
-    (λ c κs. search needs)
-    (λ c. search needs)
-    (λ c. sym (length-take-le _ _ (c .before .before .least .ensures)))
-    (λ c. search needs)
-    (λ c. sym (length-take-le _ _ (c .before .before .least2 .ensures)))
-    (λ c κs. search needs)
-    (λ c. search needs)
-    (λ c κs. search needs)
-    (λ c. search needs)
-    (λ c. search needs)
-    (λ c κs. search needs)
-    (λ c. search needs)
-    (λ c. search needs)
-    (λ c. search needs)
-    (λ c. search needs)
-    (λ c. search needs)
-    (λ c. search needs))
+    (tie.spec (λ c κs. search needs) (λ c. search needs) (λ c κs. search needs) (λ c. search needs) (λ c κs. search needs) (λ c. search needs)
+    (λ c. search needs) (λ c. search needs) returns (λ c. search needs) (λ c. search needs) (λ c. search needs) returns-2)

@@ -1,36 +1,27 @@
--- `replay_calls::answers::diagnostics` is safe: each array's part is at most the whole.
-use mathlib.Core.Path.{sym}
-use lib.Seq.{length-take-le}
+-- `diagnostics`: the number, or the count; the outputs and the work area are those of the call.
 use borrow.Author.Needs.{needs}
+use Rattle.replay_calls.proofs.Told.{diagnostics-told}
 use Rattle.replay_calls.proofs.answers.diagnostics.Statement.{statement}
 use Rattle.replay_calls.proofs.answers.diagnostics.Tie as tie
+
+returns : tie.Need-returns
+returns c =
+    let at-said = c .before .before in
+    let at-arm = at-said .before .before .before in
+    let at-call = at-arm .before .before .before .before .before .before .before .before in
+    diagnostics-told (at-call .diagnostics .ensures) (rw (at-arm .number .given .1) (at-said .say-refused .ensures))
+
+returns-2 : tie.Need-returns-2
+returns-2 c =
+    let at-said = c .before .before in
+    let at-arm = at-said .before .before .before .before in
+    let at-call = at-arm .before .before .before .before .before .before .before .before in
+    let values = rw (at-said .before .before .wide .ensures) at (at-said .say-one .ensures) in
+    diagnostics-told (at-call .diagnostics .ensures) (rw (at-arm .count .given .1) values)
 
 pub diagnostics-spec : {M : Type 1} → statement M
 diagnostics-spec =
     tie.close
-    (tie.spec
-    (λ c κs. search needs)
-    (λ c κs. search needs)
-    (λ c κs. search needs)
-    (λ c. search needs)
-    (λ c. sym (length-take-le _ _ (c .before .before .before .least .ensures)))
-    (λ c. search needs)
-    (λ c. sym (length-take-le _ _ (c .before .before .before .least2 .ensures)))
-    (λ c. search needs)
-    (λ c. sym (length-take-le _ _ (c .before .before .before .least3 .ensures)))
-    (λ c κs. search needs)
-    (λ c. search needs)
-    (λ c κs. search needs)
-    (λ c. search needs)
-    (λ c. search needs)
-    (λ c. search needs)
-    (λ c κs. search needs)
-    (λ c. search needs)
-    (λ c. search needs)
-    (λ c. search needs)
-    (λ c. search needs)
-    (λ c. search needs)
-    (λ c. search needs)
-    (λ c. search needs)
-    (λ c. search needs)
-    (λ c. search needs))
+    (tie.spec (λ c κs. search needs) (λ c. search needs) (λ c κs. search needs) (λ c. search needs) (λ c κs. search needs)
+    (λ c κs. search needs) (λ c. search needs) (λ c. search needs) (λ c. search needs) (λ c. search needs) returns (λ c. search needs)
+    (λ c. search needs) (λ c. search needs) (λ c. search needs) returns-2)

@@ -1,30 +1,16 @@
--- `replay_calls::answers::engrave` is safe: each array's part is at most the whole.
-use mathlib.Core.Path.{sym}
-use lib.Seq.{length-take-le}
+-- `engrave`: its answer as numbers; the outputs and the work area are those of the call.
 use borrow.Author.Needs.{needs}
+use Rattle.replay_calls.proofs.Told.{engrave-told}
 use Rattle.replay_calls.proofs.answers.engrave.Statement.{statement}
 use Rattle.replay_calls.proofs.answers.engrave.Tie as tie
+
+returns : tie.Need-returns
+returns c =
+    let at-said = c .before .before in
+    engrave-told (at-said .before .before .before .before .before .before .before .before .before .before .engrave .ensures) (at-said .say-size .ensures)
 
 pub engrave-spec : {M : Type 1} → statement M
 engrave-spec =
     tie.close
-    (tie.spec
-    (λ c κs. search needs)
-    (λ c κs. search needs)
-    (λ c κs. search needs)
-    (λ c κs. search needs)
-    (λ c. search needs)
-    (λ c. sym (length-take-le _ _ (c .before .before .before .before .least .ensures)))
-    (λ c. search needs)
-    (λ c. sym (length-take-le _ _ (c .before .before .before .before .least2 .ensures)))
-    (λ c. search needs)
-    (λ c. sym (length-take-le _ _ (c .before .before .before .before .least3 .ensures)))
-    (λ c. search needs)
-    (λ c. sym (length-take-le _ _ (c .before .before .before .before .least4 .ensures)))
-    (λ c κs. search needs)
-    (λ c κs. search needs)
-    (λ c. search needs)
-    (λ c. search needs)
-    (λ c. search needs)
-    (λ c. search needs)
-    (λ c. search needs))
+    (tie.spec (λ c κs. search needs) (λ c κs. search needs) (λ c. search needs) (λ c. search needs) (λ c. search needs) (λ c. search needs)
+    (λ c. search needs) returns)

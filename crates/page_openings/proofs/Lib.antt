@@ -1,0 +1,7 @@
+pub mod Numbers
+pub mod PieceOpened
+pub mod PartOpened
+pub mod Read
+pub mod Files
+pub mod Turns
+pub mod Printed

@@ -1,0 +1,4 @@
+pub mod Ahead
+pub mod Runs
+pub mod Staffs
+pub mod Rooms

@@ -1,0 +1,4 @@
+pub mod Page
+pub mod Spots
+pub mod Steps
+pub mod Claims
