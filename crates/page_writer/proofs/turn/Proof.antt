@@ -1,10 +1,10 @@
--- `printer::turn` opens, puts and writes; the place behind it is ready, and nearer to the end.
+-- `page_writer::turn` opens, puts and writes; the place behind it is ready, and nearer to the end.
 use mathlib.Core.Path.{sym}
 use borrow.Author.Needs.{needs}
 use lib.Seq.{length-take-le}
 use Rattle.page_openings.proofs.Turns.{turn-goes}
-use Rattle.printer.proofs.turn.Statement.{statement}
-use Rattle.printer.proofs.turn.Tie as tie
+use Rattle.page_writer.proofs.turn.Statement.{statement}
+use Rattle.page_writer.proofs.turn.Tie as tie
 
 abbrev start-of-open : tie.After-open-next → tie.Start
 start-of-open c =

@@ -1,4 +1,4 @@
--- `printer::print_page` takes turns until none goes on. Invariant: the place is ready, and the arrays keep their lengths; the measure is how far the
+-- `page_writer::print_page` takes turns until none goes on. Invariant: the place is ready, and the arrays keep their lengths; the measure is how far the
 -- place is from the end.
 use mathlib.Core.Path.{_≡_, refl, sym, _∙_}
 use native.Mathlib.Omega.{arith}
@@ -7,8 +7,8 @@ use lib.ListN.{length}
 use Rattle.rules.specs.Piece.{piece}
 use Rattle.pages.specs.Spots.{sheet}
 use Rattle.page_openings.specs.Places.{Ready, weight}
-use Rattle.printer.proofs.print_page.Statement.{statement}
-use Rattle.printer.proofs.print_page.Tie as tie
+use Rattle.page_writer.proofs.print_page.Statement.{statement}
+use Rattle.page_writer.proofs.print_page.Tie as tie
 
 abbrev Inv-loop : tie.InvT-loop
 Inv-loop sizes deltas words starts marks counts₀ heads₀ keys₀ work₀ out₀ at₀ counts heads keys work out at =

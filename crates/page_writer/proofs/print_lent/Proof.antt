@@ -1,9 +1,9 @@
--- `printer::print_lent` hands over the piece at the front of the arrays: its lengths fit, and the place is ready.
+-- `page_writer::print_lent` hands over the piece at the front of the arrays: its lengths fit, and the place is ready.
 use mathlib.Core.Path.{refl, sym}
 use borrow.Author.Needs.{needs}
 use lib.Seq.{length-take-le}
-use Rattle.printer.proofs.print_lent.Statement.{statement}
-use Rattle.printer.proofs.print_lent.Tie as tie
+use Rattle.page_writer.proofs.print_lent.Statement.{statement}
+use Rattle.page_writer.proofs.print_lent.Tie as tie
 
 abbrev start-of-arg : tie.After-print-page-arg → tie.Start
 start-of-arg c =
