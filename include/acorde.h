@@ -76,7 +76,7 @@ extern "C" {
 
 /* Of this header and of the archive built with it. MAJOR grows where a program for the version before may no longer be
    right, MINOR where something is added. CHANGELOG.md has what changed. */
-#define ACORDE_VERSION "1.1.2"
+#define ACORDE_VERSION "1.1.3"
 #define ACORDE_VERSION_MAJOR 1
 #define ACORDE_VERSION_MINOR 1
 #define ACORDE_VERSION_PATCH 2

@@ -12,10 +12,11 @@ from pathlib import Path
 ROOT = Path(__file__).resolve().parents[2]
 PROGRAM = ROOT / "target/bin/replay"
 LIST = (ROOT / "crates/replay/stdin").read_bytes()
-# In these places another number may be as right: a velocity that no answer shows, a room that is still enough, a staff that
-# gets the same answer.
+# In these places another number may be as right: a velocity that no answer shows, a room that is still enough, a file that
+# is refused as before, a staff that gets the same answer.
+GIVEN_PIECE = {"sizes given", "deltas given", "words given", "zeros", "bytes given"}
 GIVEN_STAFF = {"keys given", "counts given", "heads given"}
-MAY_AGREE = {"deltas", "words given", "sizes", "zeros", "room", "part", "call number"} | GIVEN_STAFF
+MAY_AGREE = {"room", "part", "call number"} | GIVEN_PIECE | GIVEN_STAFF
 
 
 def run(text):
@@ -52,17 +53,16 @@ def places():
         elif b", call " in line:
             add("call number", spots[:1])
             add("part", spots[1:2])
-            add("room", spots[2:7])
-            add("list length", spots[7:8])
+            add("room", spots[2:8])
+            add("list length", spots[8:9])
             name = line.split(b",")[0].decode()
-            refusal = len(spots) == 9
-            add("refusal" if refusal else f"{name} answer", spots[8:])
-        elif label in ("none", "\n"):
-            pass
-        else:
+            refusal = len(spots) == 10
+            add("refusal" if refusal else f"{name} answer", spots[9:])
+        elif label == "none":
+            add("list length", spots)
+        elif label != "\n":
             add("list length", spots[:1])
-            of_input = label == "words" and given or name == "proof read" and not given
-            add(f"{label} given" if of_input else label, spots[1:])
+            add(f"{label} given" if given or name == "proof read" else f"{label} of {name}", spots[1:])
         at += len(line)
     return kinds
 

@@ -25,8 +25,8 @@ const USAGE: &str = "usage: differential COMMAND
   piece SEED INDEX     one generated piece
   short SEED INDEX     one of the short pieces of `sweep`
   staffs SEED INDEX CHANGES  a generated piece's staffs, engraved and changed, with the plain proof-reader's answers
-  list SEED COUNT      a list of the reference's answers for the program `replay`; coverage on the standard error
-  list-files SEED COUNT  the same of a second reader's answers on files, for the program `replay_files`
+  list SEED COUNT      a list of the reference's answers, and a second reader's on files, for the program `replay`;
+                       coverage on the standard error
   pages                the printing programs' pages of the real pieces against the reference's text
   pages SEED COUNT     the same of generated pieces
   compare SEED COUNT [SECONDS]    the proved library against the reference (feature `library`)
@@ -64,12 +64,6 @@ fn main() -> ExitCode {
         }),
         ["list", seed, count] => number(seed).and_then(|seed| {
             let (list, report) = list::of_seed(seed, number(count)?);
-            print!("{list}");
-            eprint!("{report}");
-            Ok(())
-        }),
-        ["list-files", seed, count] => number(seed).and_then(|seed| {
-            let (list, report) = files::list::of_seed(seed, number(count)?);
             print!("{list}");
             eprint!("{report}");
             Ok(())

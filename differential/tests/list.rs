@@ -1,22 +1,26 @@
 //! The stored list is what the command makes, and it reaches what it should.
 
 use differential::coverage::Report;
-use differential::list::{self, Changes};
+use differential::files::{classes::CLASSES, facts::Fact, tally::Tally};
+use differential::list::{self, Calls, Changes};
 
-/// The seed and the number of pieces that docs/REPLAY.md names.
+/// The seed and the number of pieces and of files that docs/REPLAY.md names.
 const SEED: u64 = 1;
-const PIECES: u64 = 60_000;
+const COUNT: u64 = 60_000;
 
 /// So many changed staffs at least for each point and each of its reasons.
 const STAFFS: usize = 3;
+/// So many files at least of each class, and with each fact.
+const FILES: u64 = 5;
 
 #[test]
-fn the_stored_list_is_the_reference_s() {
+fn the_stored_list_is_the_command_s() {
     let stored = std::fs::read_to_string("../crates/replay/stdin").expect("the stored list");
-    let (text, coverage) = list::of_seed(SEED, PIECES);
-    assert!(stored == text, "`list {SEED} {PIECES}` makes another list");
+    let (text, coverage) = list::of_seed(SEED, COUNT);
+    assert!(stored == text, "`list {SEED} {COUNT}` makes another list");
     pieces_reach(&coverage.pieces);
     changes_reach(&coverage.changes);
+    files_reach(&coverage.files, &coverage.calls);
     let written = std::fs::read_to_string("../crates/replay/stdout").expect("the stored output");
     let count = text.matches("\npiece ").count();
     let calls = coverage.calls.sum();
@@ -52,4 +56,18 @@ fn changes_reach(changes: &Changes) {
     }
     assert!(changes.yes() >= 100, "{} yes", changes.yes());
     assert!(changes.uneven() >= STAFFS, "{} uneven", changes.uneven());
+}
+
+fn files_reach(files: &Tally, calls: &Calls) {
+    for (index, class) in CLASSES.iter().enumerate() {
+        let count = files.class(index).sum();
+        assert!(count >= FILES, "{count} files of class: {}", class.name);
+    }
+    for fact in Fact::ALL {
+        let count = files.fact(fact);
+        assert!(count >= FILES, "{count} files with {fact:?}");
+    }
+    for number in [0, 2, 5, 8, 12, 13] {
+        assert!(calls.of("read", number) > 0, "no file read with {number}");
+    }
 }

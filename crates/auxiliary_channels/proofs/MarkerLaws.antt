@@ -144,20 +144,26 @@ markers-words n t (d ∷ ds) (w ∷ ws) e =
     let rest = markers-words (suc n) (t + d) ds ws (omega arith) in
     elim (by-bool (isKind 5 w)) [ inl k ↦ rw (k, rest) | inr k ↦ rw (k, rest) ]
 
-noted-all : (ws : List ℕ) (ms : List Marker) (q : Pairs) → Noted ms q → Noted (ms ++ markersIn ws) (foldl taken q ws)
+-- one word more, where what follows it is known for whatever was read before
+noted-word : (w : ℕ) (ws : List ℕ) → ((ms : List Marker) (q : Pairs) → Noted ms q → Noted (ms ++ markersIn ws) (foldl taken q ws))
+    → (ms : List Marker) (q : Pairs) → Noted ms q → Noted (ms ++ markersIn (w ∷ ws)) (foldl taken q (w ∷ ws))
 unfolding keep more
-noted-all [] ms q noted = rw append-nil noted
-noted-all (w ∷ ws) ms q noted =
+noted-word w ws rest ms q noted =
     elim (by-bool (isKind 5 w)) [
-      | inr k ↦ rw k (noted-all ws ms q noted)
+      | inr k ↦ rw k (rest ms q noted)
       | inl k ↦
           elim (by-bool (counts? (marker (byteA w) (byteB w)))) [
-            | inr c ↦ rw (k, c) (noted-all ws ms q noted)
+            | inr c ↦ rw (k, c) (rest ms q noted)
             | inl c ↦
                 let (hb, hs) = pair-below (byteA w) (byteB w) c in
-                rw (k, c, ← append-snoc) (noted-all ws _ _ (noted-added (byteA w) (byteB w) hb hs noted))
+                rw (k, c, ← append-snoc) (rest _ _ (noted-added (byteA w) (byteB w) hb hs noted))
           ]
     ]
+
+noted-all : (ws : List ℕ) (ms : List Marker) (q : Pairs) → Noted ms q → Noted (ms ++ markersIn ws) (foldl taken q ws)
+unfolding keep
+noted-all [] ms q noted = rw append-nil noted
+noted-all (w ∷ ws) ms q noted = noted-word w ws (noted-all ws) ms q noted
 
 pub noted-track : {ds ws : List ℕ} → Track ds ws → Noted (markers (eventsOf ds ws)) (pairsOf ws)
 noted-track {ds} {ws} track = rw (markers-words 0 0 ds ws (track .same)) (noted-all ws [] noPairs noted-none)

@@ -29,6 +29,7 @@ pub mod Splits
 pub mod Standards
 pub mod Swaps
 pub mod Tests
+pub mod Told
 pub mod Values
 pub mod Verdict
 pub mod VoiceLaws

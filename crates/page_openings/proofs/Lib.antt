@@ -1,4 +1,3 @@
-pub mod Numbers
 pub mod PieceOpened
 pub mod PartOpened
 pub mod Read

@@ -24,7 +24,7 @@ use Rattle.pages.specs.Spots.{Sheet, sheet, begun, ahead}
 use Rattle.pages.specs.Claims.{partSheet, PartAhead}
 use Rattle.page_openings.specs.Places.{linesAt, Ready, Rooms, PartOpened}
 use Rattle.page_openings.specs.declared.Place.{Place}
-use Rattle.page_openings.proofs.Numbers.{part-passes}
+use Rattle.page_room.proofs.Numbers.{part-passes}
 
 -- a piece with a part to open has ticks per quarter that a bar's line takes
 pub opened-small : (x : Piece) {r : Room} {s : Sheet} {t : Place} → Ready x r s t → t .next < t .parts → ticksPerQuarter x ≤ 65535

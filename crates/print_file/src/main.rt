@@ -47,18 +47,16 @@ fn total(read: usize, room: usize) -> usize
 // The file of standard input opened, in arrays that are lent.
 fn open_held(
     file: &mut [u8],
-    sizes: &mut [u32],
-    deltas: &mut [u32],
-    words: &mut [u32],
-    starts: &mut [u64],
-    marks: &mut [u64],
-    work: &mut [u64],
+    sizes: &mut [u32; 65537],
+    deltas: &mut [u32; 500000],
+    words: &mut [u32; 500000],
+    starts: &mut [u64; 10000],
+    marks: &mut [u64; 10000],
+    work: &mut [u64; 244096],
 ) -> Opened
     requires { ⌜ length (now file) ≡ 1000001 ⌝ }
-    requires { ⌜ (65537 ≤ length (now sizes)) × (500000 ≤ length (now deltas)) × (500000 ≤ length (now words)) ⌝ }
-    requires { ⌜ (10000 ≤ length (now starts)) × (10000 ≤ length (now marks)) ⌝ }
     ensures within { λ r. ⌜ Within (now (sizes .exit)) (now (deltas .exit)) (now (words .exit)) r ⌝ }
-    ensures opened { λ r. ⌜ FileOpened (record { items = 60000; work = length (now (work .entry)) })
+    ensures opened { λ r. ⌜ FileOpened (record { items = 60000; work = 244096 })
         (now (sizes .exit)) (now (deltas .exit)) (now (words .exit)) (now (starts .exit)) (now (marks .exit)) r ⌝ }
 {
     let n = io::read_full(STDIN_FILENO, file);
@@ -79,17 +77,15 @@ fn open_held(
 
 // The same, with room for the bytes.
 fn open_input(
-    sizes: &mut [u32],
-    deltas: &mut [u32],
-    words: &mut [u32],
-    starts: &mut [u64],
-    marks: &mut [u64],
-    work: &mut [u64],
+    sizes: &mut [u32; 65537],
+    deltas: &mut [u32; 500000],
+    words: &mut [u32; 500000],
+    starts: &mut [u64; 10000],
+    marks: &mut [u64; 10000],
+    work: &mut [u64; 244096],
 ) -> Opened
-    requires { ⌜ (65537 ≤ length (now sizes)) × (500000 ≤ length (now deltas)) × (500000 ≤ length (now words)) ⌝ }
-    requires { ⌜ (10000 ≤ length (now starts)) × (10000 ≤ length (now marks)) ⌝ }
     ensures within { λ r. ⌜ Within (now (sizes .exit)) (now (deltas .exit)) (now (words .exit)) r ⌝ }
-    ensures opened { λ r. ⌜ FileOpened (record { items = 60000; work = length (now (work .entry)) })
+    ensures opened { λ r. ⌜ FileOpened (record { items = 60000; work = 244096 })
         (now (sizes .exit)) (now (deltas .exit)) (now (words .exit)) (now (starts .exit)) (now (marks .exit)) r ⌝ }
 {
     let mut file = [0u8; 1000001];
@@ -98,24 +94,19 @@ fn open_input(
 
 // Prints the page of the file of standard input, in arrays that are lent.
 fn print_in(
-    sizes: &mut [u32],
-    deltas: &mut [u32],
-    words: &mut [u32],
-    starts: &mut [u64],
-    marks: &mut [u64],
-    work: &mut [u64],
-)
-    requires { ⌜ (65537 ≤ length (now sizes)) × (500000 ≤ length (now deltas)) × (500000 ≤ length (now words)) ⌝ }
-    requires { ⌜ (10000 ≤ length (now starts)) × (10000 ≤ length (now marks)) ⌝ }
-{
+    sizes: &mut [u32; 65537],
+    deltas: &mut [u32; 500000],
+    words: &mut [u32; 500000],
+    starts: &mut [u64; 10000],
+    marks: &mut [u64; 10000],
+    work: &mut [u64; 244096],
+) {
     let opened = open_input(sizes, deltas, words, starts, marks, work);
     printer::print_opened(opened, sizes, deltas, words, starts, marks, work);
 }
 
 // The same. The work area is the one of `printer`.
-fn print_read(sizes: &mut [u32], deltas: &mut [u32], words: &mut [u32])
-    requires { ⌜ (65537 ≤ length (now sizes)) × (500000 ≤ length (now deltas)) × (500000 ≤ length (now words)) ⌝ }
-{
+fn print_read(sizes: &mut [u32; 65537], deltas: &mut [u32; 500000], words: &mut [u32; 500000]) {
     let mut starts = [0u64; 10000];
     let mut marks = [0u64; 10000];
     let mut work = [0u64; 244096];

@@ -3,7 +3,7 @@ use Prim.Native.Nat.{ℕ}
 use mathlib.Core.List.{List}
 use mathlib.Core.Path.{_≡_, sym, subst}
 use Rattle.page_openings.specs.declared.Opened.{Opened}
-use Rattle.page_writer.specs.Turns.{ReadyFor}
+use Rattle.printer.specs.Turns.{ReadyFor}
 
 pub ready-work : (o : Opened) (n w v : ℕ) (ss ds ws st mk : List ℕ) → w ≡ v → ReadyFor o (record { items = n; work = v }) ss ds ws st mk
     → ReadyFor o (record { items = n; work = w }) ss ds ws st mk

@@ -2,11 +2,12 @@
 use page_openings::Opened;
 use piece_text::Text;
 ghost use Prim.Native.Nat.{_≤_};
-ghost use mathlib.Core.Path.{_≡_};
 ghost use lib.ListN.{length};
 ghost use Rattle.piece_input.specs.Input.{ReadText};
 ghost use Rattle.page_openings.specs.Places.{Within};
-ghost use Rattle.page_writer.specs.Turns.{ReadyFor};
+ghost use Rattle.printer.specs.Turns.{ReadyFor};
+
+mod writer;
 
 // Prints what was opened. A part has at most 60,000 items.
 pub fn print_opened(
@@ -26,7 +27,7 @@ pub fn print_opened(
     let mut heads = [0u32; 60000];
     let mut keys = [0u64; 120000];
     let mut out = io::large_buffer();
-    page_writer::print_lent(
+    writer::print_lent(
         opened,
         sizes,
         deltas,
@@ -44,25 +45,22 @@ pub fn print_opened(
 // Prints the page of a text that was read, in arrays that are lent.
 fn print_in(
     text: Text,
-    sizes: &[u32],
-    deltas: &[u32],
-    words: &[u32],
-    starts: &mut [u64],
-    marks: &mut [u64],
-    work: &mut [u64],
+    sizes: &[u32; 65537],
+    deltas: &[u32; 500000],
+    words: &[u32; 500000],
+    starts: &mut [u64; 10000],
+    marks: &mut [u64; 10000],
+    work: &mut [u64; 244096],
 )
     requires { ⌜ ReadText text (now sizes) (now deltas) (now words) ⌝ }
-    requires { ⌜ (length (now sizes) ≡ 65537) × (length (now deltas) ≡ 500000) × (length (now words) ≡ 500000) ⌝ }
-    requires { ⌜ (10000 ≤ length (now starts)) × (10000 ≤ length (now marks)) ⌝ }
 {
     let opened = page_openings::open_text(text, sizes, deltas, words, 60000, starts, marks, work);
     print_opened(opened, sizes, deltas, words, starts, marks, work);
 }
 
 // Prints the page of a text that was read. The work area suffices for 15,000 note-ons in one track: 16 times as many words and 4,096.
-fn print_read(text: Text, sizes: &[u32], deltas: &[u32], words: &[u32])
+fn print_read(text: Text, sizes: &[u32; 65537], deltas: &[u32; 500000], words: &[u32; 500000])
     requires { ⌜ ReadText text (now sizes) (now deltas) (now words) ⌝ }
-    requires { ⌜ (length (now sizes) ≡ 65537) × (length (now deltas) ≡ 500000) × (length (now words) ≡ 500000) ⌝ }
 {
     let mut starts = [0u64; 10000];
     let mut marks = [0u64; 10000];

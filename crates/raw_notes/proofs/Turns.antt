@@ -1,5 +1,5 @@
 -- One event after another: the pairing, the notes in their columns, and the counts go on together.
-use Prim.Native.Nat.{ℕ, _+_, _≤_, _<_, _^_}
+use Prim.Native.Nat.{ℕ, _+_, _*_, _≤_, _<_, _^_}
 use mathlib.Core.List.{List}
 use mathlib.Core.Path.{_≡_, refl, subst⁻¹}
 use native.Mathlib.Omega.{arith}
@@ -48,23 +48,18 @@ module _ {h t h₀ t₀ : List (List ℕ)} {w w₀ : List ℕ} {n m r : ℕ} {x 
     of-start : (P : NoteEvent → Type 0) → All P (x .pending) → P (by .start)
     of-start P a = first-kept P (sameKey (noteEvent e)) (x .pending) (by .start) a (by .first)
 
-    pub record Closes : Type 0 where
-      pub early : t₁ < 2 ^ 47
-      pub channel : byteA (e .word) < 16
-      pub key : byteB (e .word) < 128
-      pub room : r < m
-      pub within : m ≤ n
-
-    pub closing : Closes
-    closing =
-        let inside = of-start Inside (p .queues .inside) in
-        record {
-          early = omega (arith, by .is .tick, of-start Early (p .early));
-          channel = omega (arith, by .is .channel, inside .channel);
-          key = omega (arith, by .is .key, inside .key);
-          room = omega (arith, p .held, one-less);
-          within = p .queues .room;
-        }
+    -- what `put_note` asks, for its key and its channel
+    pub note-fits : e .tick < 2 ^ 47 → {key channel : ℕ} → key ≡ byteB (e .word) → channel ≡ byteA (e .word)
+        → (r < n) × (16 * n ≤ length w) × (t₁ < 2 ^ 47) × (e .tick < 2 ^ 47) × (key < 128) × (channel < 16)
+    note-fits soon is-key is-channel =
+        let inside = of-start Inside (p .queues .inside) in (
+          omega (arith, p .held, one-less, p .queues .room),
+          q .queues .area,
+          omega (arith, by .is .tick, of-start Early (p .early)),
+          soon,
+          omega (arith, is-key, by .is .key, inside .key),
+          omega (arith, is-channel, by .is .channel, inside .channel),
+        )
 
     pairs-closed : e .tick < 2 ^ 47 → {w₂ : List ℕ} → length w₂ ≡ length w → NotePut w w₂ n r (noteOf t₁ (e .tick) (byteB (e .word)) (byteA (e .word)))
         → Pairs h t w₂ n m (r + 1) (after x e)

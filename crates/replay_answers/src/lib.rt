@@ -4,7 +4,7 @@ ghost use mathlib.Core.List.{[], _∷_};
 ghost use mathlib.Core.Path.{_≡_};
 ghost use lib.IntN.{pos, _+ℤ_, natAbs};
 ghost use lib.ListN.{length};
-ghost use Rattle.rules.specs.Lists.{written};
+ghost use Rattle.rules.specs.Lists.{flag, written};
 
 // How far fifths + 8 is from 0: fifths + 8, where they are a key's.
 pub fn raised(fifths: i32) -> u64
@@ -30,6 +30,14 @@ pub fn say_one(a: u64, said: &mut [u64])
 {
     said[0] = 0;
     said[1] = a;
+}
+
+// 1 for yes, 0 for no.
+pub fn say_right(right: bool, said: &mut [u64])
+    requires { ⌜ 8 ≤ length (now said) ⌝ }
+    ensures { λ _. ⌜ now (said .exit) ≡ written (0 ∷ flag right ∷ []) (now (said .entry)) ⌝ }
+{
+    say_one(right as u64, said);
 }
 
 pub fn say_two(a: u64, b: u64, said: &mut [u64])

@@ -15,6 +15,7 @@ use Rattle.rules.specs.Calls.{headCall, partCountCall, partHeadCall, barsCall, 
 use Rattle.rules.specs.Calls.{BarLists, StaffSize, AutomationCounts, partSize, countsOf}
 use Rattle.bar_marks.specs.Marks.{keyFifths, keyMinor}
 use Rattle.replay_answers.specs.Numbers.{saying}
+use Rattle.replay_file_calls.specs.Outcomes as files
 
 -- the numbers of the answer and the arrays, before a call or after it
 pub record Left : Type 0 where
@@ -23,10 +24,11 @@ pub record Left : Type 0 where
   pub b : List ℕ
   pub c : List ℕ
   pub d : List ℕ
+  pub e : List ℕ
   pub work : List ℕ
 
-abbrev pub left : (said a b c d work : List ℕ) → Left
-left said a b c d work = record { said = said; a = a; b = b; c = c; d = d; work = work }
+abbrev pub left : (said a b c d e work : List ℕ) → Left
+left said a b c d e work = record { said = said; a = a; b = b; c = c; d = d; e = e; work = work }
 
 -- ---- the values of an answer, behind its 0
 
@@ -54,12 +56,12 @@ readNumbers right = flag right ∷ []
 -- an answer alone
 abbrev pub answerLeft : {A : Type 0} → (A → List ℕ) → Result A → Left → Left
 answerLeft values r l =
-    record { said = saying values (l .said) r; a = l .a; b = l .b; c = l .c; d = l .d; work = l .work }
+    record { said = saying values (l .said) r; a = l .a; b = l .b; c = l .c; d = l .d; e = l .e; work = l .work }
 
 -- an answer that took a work area
 abbrev pub workLeft : {A : Type 0} → (A → List ℕ) → Result A → Left → Left
 workLeft values r l =
-    record { said = saying values (l .said) r; a = l .a; b = l .b; c = l .c; d = l .d; work = cleared (l .work) }
+    record { said = saying values (l .said) r; a = l .a; b = l .b; c = l .c; d = l .d; e = l .e; work = cleared (l .work) }
 
 -- a: starts, b: marks
 abbrev pub barsLeft : Result BarLists → Left → Left
@@ -70,6 +72,7 @@ barsLeft r l =
       b = written (writes (λ (o : BarLists). o .marks) r) (l .b);
       c = l .c;
       d = l .d;
+      e = l .e;
       work = l .work;
     }
 
@@ -82,6 +85,7 @@ engraveLeft size r l =
       b = l .b;
       c = written (writes (λ (o : StaffArrays). o .counts) r) (l .c);
       d = written (writes (λ (o : StaffArrays). o .heads) r) (l .d);
+      e = l .e;
       work = cleared (l .work);
     }
 
@@ -94,6 +98,7 @@ automationLeft r l =
       b = l .b;
       c = written (writes (λ (o : AutomationLists). o .words) r) (l .c);
       d = l .d;
+      e = l .e;
       work = l .work;
     }
 
@@ -106,8 +111,16 @@ diagnosticsLeft r l =
       b = written (writes (map detailOf) r) (l .b);
       c = l .c;
       d = l .d;
+      e = l .e;
       work = cleared (l .work);
     }
+
+-- a call on a file: c sizes, d deltas, e words
+abbrev pub fileLent : Left → files.Left
+fileLent l = record { said = l .said; sizes = l .c; deltas = l .d; words = l .e }
+
+abbrev pub fileLeft : files.Left → Left → Left
+fileLeft f l = record { said = f .said; a = l .a; b = l .b; c = f .sizes; d = f .deltas; e = f .words; work = l .work }
 
 -- ---- the calls by their numbers
 
@@ -115,9 +128,9 @@ diagnosticsLeft r l =
 abbrev pub staffLent : Left → StaffArrays
 staffLent l = record { counts = l .c; heads = l .d; keys = l .a }
 
--- What a call leaves, by its number, the part, the piece and what was lent. No other number changes anything.
-unfoldable pub outcome : ℕ → ℕ → Piece → Left → Left
-outcome code part x l =
+-- What a call leaves, by its number, the part, the piece, the file's bytes and what was lent. No other number changes anything.
+unfoldable pub outcome : ℕ → ℕ → Piece → List ℕ → Left → Left
+outcome code part x bytes l =
     cond (eqb code 1) (answerLeft headNumbers (headCall x) l)
     (cond (eqb code 2) (answerLeft countNumbers (partCountCall x) l)
     (cond (eqb code 3) (answerLeft partHeadNumbers (partHeadCall x part) l)
@@ -127,4 +140,5 @@ outcome code part x l =
     (engraveLeft (partSize x part) (engraveCall x part (length (l .c)) (length (l .d)) (length (l .a)) (length (l .work))) l)
     (cond (eqb code 7) (automationLeft (automationCall x part (length (l .a)) (length (l .c))) l)
     (cond (eqb code 8) (diagnosticsLeft (diagnosticsCall x (length (l .a)) (length (l .b)) (length (l .work))) l)
-    (cond (eqb code 11) (workLeft readNumbers (proofReadCall x part (staffLent l) (length (l .work))) l) l))))))))
+    (cond (eqb code 11) (workLeft readNumbers (proofReadCall x part (staffLent l) (length (l .work))) l)
+    (fileLeft (files.outcome code bytes (fileLent l)) l)))))))))

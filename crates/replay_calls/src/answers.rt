@@ -10,6 +10,7 @@ use heads::PartHeadAnswer;
 use proofread::ReadAnswer;
 use replay_answers::say_one;
 use replay_answers::say_refused;
+use replay_answers::say_right;
 use replay_answers::say_two;
 use staffs::StaffAnswer;
 ghost use Prim.Native.Nat.{_≤_};
@@ -211,6 +212,6 @@ pub fn proof_read(
 {
     match proofread::proof_read(sizes, deltas, words, part, counts, heads, keys, work) {
         ReadAnswer::Refused(number) => say_refused(number, said),
-        ReadAnswer::Given(right) => say_one(right as u64, said),
+        ReadAnswer::Given(right) => say_right(right, said),
     }
 }

@@ -14,17 +14,19 @@ pub fn call(
     sizes: &[u32],
     deltas: &[u32],
     words: &[u32],
+    bytes: &[u8],
     a: &mut [u64],
     b: &mut [u64],
     c: &mut [u32],
     d: &mut [u32],
+    e: &mut [u32],
     work: &mut [u64],
     said: &mut [u64],
 )
     requires { ⌜ 8 ≤ length (now said) ⌝ }
-    ensures { λ _. ⌜ left (now (said .exit)) (now (a .exit)) (now (b .exit)) (now (c .exit)) (now (d .exit)) (now (work .exit))
-        ≡ outcome code part (piece (now (sizes .entry)) (now (deltas .entry)) (now (words .entry)))
-        (left (now (said .entry)) (now (a .entry)) (now (b .entry)) (now (c .entry)) (now (d .entry)) (now (work .entry))) ⌝ }
+    ensures { λ _. ⌜ left (now (said .exit)) (now (a .exit)) (now (b .exit)) (now (c .exit)) (now (d .exit)) (now (e .exit)) (now (work .exit))
+        ≡ outcome code part (piece (now (sizes .entry)) (now (deltas .entry)) (now (words .entry))) (now (bytes .entry))
+        (left (now (said .entry)) (now (a .entry)) (now (b .entry)) (now (c .entry)) (now (d .entry)) (now (e .entry)) (now (work .entry))) ⌝ }
 {
     match code {
         1 => answers::head(sizes, deltas, words, said),
@@ -36,6 +38,6 @@ pub fn call(
         7 => answers::automation(sizes, deltas, words, part, a, c, said),
         8 => answers::diagnostics(sizes, deltas, words, a, b, work, said),
         11 => answers::proof_read(sizes, deltas, words, part, c, d, a, work, said),
-        _ => {}
+        _ => replay_file_calls::call(code, bytes, c, d, e, said),
     }
 }

@@ -1,4 +1,4 @@
-// The calls on a file by number, each with its answer as numbers: what the program `replay_files` compares.
+// The calls on a file by number, each with its answer as numbers: what the program `replay` compares on files.
 use files::PieceAnswer;
 use replay_answers::say_refused;
 use replay_answers::say_two;

@@ -43,11 +43,13 @@ unfolding givenTo
 given-none text q a b c d e = rw (ne-eqb _ _ e) (record { a = refl; b = refl; c = refl; d = refl })
 
 -- what is lent, from what the arrays were filled with and given
-pub lent-is : (text : List ℕ) (q : Asked) (s s₁ s₂ a₀ a₁ b₀ b₁ c₀ c₁ d₀ d₁ a₂ b₂ c₂ d₂ w₀ w₁ : List ℕ) → Cut q s a₀ b₀ c₀ d₀ → length w₀ ≡ q .work
+pub lent-is : (text : List ℕ) (q : Asked) (s s₁ s₂ a₀ a₁ b₀ b₁ c₀ c₁ d₀ d₁ a₂ b₂ c₂ d₂ e₀ e₁ w₀ w₁ : List ℕ)
+    → Cut q s a₀ b₀ c₀ d₀ → length e₀ ≡ q .e → length w₀ ≡ q .work
     → length s₁ ≡ length s → s₂ ≡ others 0 (length s₁)
-    → a₁ ≡ others 0 (length a₀) → b₁ ≡ others 0 (length b₀) → c₁ ≡ others 0 (length c₀) → d₁ ≡ others 0 (length d₀) → w₁ ≡ others 0 (length w₀)
+    → a₁ ≡ others 0 (length a₀) → b₁ ≡ others 0 (length b₀) → c₁ ≡ others 0 (length c₀) → d₁ ≡ others 0 (length d₀)
+    → e₁ ≡ others 0 (length e₀) → w₁ ≡ others 0 (length w₀)
     → Loaded (givenTo text q) a₁ b₁ c₁ d₁ a₂ b₂ c₂ d₂
-    → left s₂ a₂ b₂ c₂ d₂ w₁ ≡ lent text q
+    → left s₂ a₂ b₂ c₂ d₂ e₁ w₁ ≡ lent text q
 unfolding lent
-lent-is text q s s₁ s₂ a₀ a₁ b₀ b₁ c₀ c₁ d₀ d₁ a₂ b₂ c₂ d₂ w₀ w₁ cut hw ks es ea eb ec ed ew l =
-    rw (l .a, l .b, l .c, l .d, es, ea, eb, ec, ed, ew, ks, cut .said-room, cut .a-room, cut .b-room, cut .c-room, cut .d-room, hw)
+lent-is text q s s₁ s₂ a₀ a₁ b₀ b₁ c₀ c₁ d₀ d₁ a₂ b₂ c₂ d₂ e₀ e₁ w₀ w₁ cut he hw ks es ea eb ec ed ee ew l =
+    rw (l .a, l .b, l .c, l .d, es, ea, eb, ec, ed, ee, ew, ks, cut .said-room, cut .a-room, cut .b-room, cut .c-room, cut .d-room, he, hw)

@@ -18,7 +18,7 @@ use Rattle.replay_calls.specs.Outcomes.{Left, left, outcome}
 abbrev pub proofRead : ℕ
 proofRead = 11
 
--- four lists of the text, behind the answer, each in its room
+-- the first four lists of the text, behind the answer, each in its room
 pub record Lists : Type 0 where
   pub a : List ℕ
   pub b : List ℕ
@@ -53,13 +53,13 @@ unfoldable pub lent : List ℕ → Asked → Left
 lent text q =
     let l = givenTo text q in
     left (others 0 saidRoom) (written (l .a) (others 0 (q .a))) (written (l .b) (others 0 (q .b)))
-    (written (l .c) (others 0 (q .c))) (written (l .d) (others 0 (q .d))) (others 0 (q .work))
+    (written (l .c) (others 0 (q .c))) (written (l .d) (others 0 (q .d))) (others 0 (q .e)) (others 0 (q .work))
 
--- the call that is asked, of a piece, and what it leaves
-abbrev pub leaves : List ℕ → Piece → Asked → Left
-leaves text x q = outcome (q .code) (q .part) x (lent text q)
+-- the call that is asked, of a piece or a file's bytes, and what it leaves
+abbrev pub leaves : List ℕ → Piece → List ℕ → Asked → Left
+leaves text x bytes q = outcome (q .code) (q .part) x bytes (lent text q)
 
--- arrays cut to the room asked
+-- arrays cut to the room asked, those that lists are given in
 pub record Cut (q : Asked) (said a b c d : List ℕ) : Type 0 where
   pub said-room : length said ≡ saidRoom
   pub a-room : length a ≡ q .a

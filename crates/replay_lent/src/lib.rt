@@ -11,7 +11,7 @@ use replay_text::Cursor;
 // The number of the call whose lists are given to it.
 const PROOF_READ: usize = 11;
 
-// The text's four lists, which stand behind the answer, to the fronts of the arrays.
+// The text's first four lists, which stand behind the answer, to the fronts of the arrays.
 fn load(
     text: &[u8],
     p: Cursor,
@@ -54,15 +54,16 @@ fn give(
 }
 
 // Other numbers in the arrays that are lent.
-fn fill(a: &mut [u64], b: &mut [u64], c: &mut [u32], d: &mut [u32], work: &mut [u64])
+fn fill(a: &mut [u64], b: &mut [u64], c: &mut [u32], d: &mut [u32], e: &mut [u32], work: &mut [u64])
     ensures { λ _. ⌜ (now (a .exit) ≡ others 0 (length (now (a .entry)))) × (now (b .exit) ≡ others 0 (length (now (b .entry))))
         × (now (c .exit) ≡ others 0 (length (now (c .entry)))) × (now (d .exit) ≡ others 0 (length (now (d .entry))))
-        × (now (work .exit) ≡ others 0 (length (now (work .entry)))) ⌝ }
+        × (now (e .exit) ≡ others 0 (length (now (e .entry)))) × (now (work .exit) ≡ others 0 (length (now (work .entry)))) ⌝ }
 {
     replayed::fill(a);
     replayed::fill(b);
     replayed::fill_narrow(c);
     replayed::fill_narrow(d);
+    replayed::fill_narrow(e);
     replayed::fill(work);
 }
 
@@ -75,13 +76,14 @@ fn prepare(
     b: &mut [u64],
     c: &mut [u32],
     d: &mut [u32],
+    e: &mut [u32],
     work: &mut [u64],
 )
-    requires { ⌜ Cut q (now said) (now a) (now b) (now c) (now d) × (length (now work) ≡ q .work) ⌝ }
-    ensures { λ _. ⌜ left (now (said .exit)) (now (a .exit)) (now (b .exit)) (now (c .exit)) (now (d .exit)) (now (work .exit))
+    requires { ⌜ Cut q (now said) (now a) (now b) (now c) (now d) × (length (now e) ≡ q .e) × (length (now work) ≡ q .work) ⌝ }
+    ensures { λ _. ⌜ left (now (said .exit)) (now (a .exit)) (now (b .exit)) (now (c .exit)) (now (d .exit)) (now (e .exit)) (now (work .exit))
         ≡ lent (now (text .entry)) q ⌝ }
 {
-    fill(a, b, c, d, work);
+    fill(a, b, c, d, e, work);
     give(text, q, said, a, b, c, d);
     replayed::fill(said);
 }
@@ -93,17 +95,33 @@ pub fn make(
     sizes: &[u32],
     deltas: &[u32],
     words: &[u32],
+    bytes: &[u8],
     said: &mut [u64],
     a: &mut [u64],
     b: &mut [u64],
     c: &mut [u32],
     d: &mut [u32],
+    e: &mut [u32],
     work: &mut [u64],
 )
-    requires { ⌜ Cut q (now said) (now a) (now b) (now c) (now d) × (length (now work) ≡ q .work) ⌝ }
-    ensures { λ _. ⌜ left (now (said .exit)) (now (a .exit)) (now (b .exit)) (now (c .exit)) (now (d .exit)) (now (work .exit))
-        ≡ leaves (now (text .entry)) (piece (now (sizes .entry)) (now (deltas .entry)) (now (words .entry))) q ⌝ }
+    requires { ⌜ Cut q (now said) (now a) (now b) (now c) (now d) × (length (now e) ≡ q .e) × (length (now work) ≡ q .work) ⌝ }
+    ensures { λ _. ⌜ left (now (said .exit)) (now (a .exit)) (now (b .exit)) (now (c .exit)) (now (d .exit)) (now (e .exit)) (now (work .exit))
+        ≡ leaves (now (text .entry)) (piece (now (sizes .entry)) (now (deltas .entry)) (now (words .entry))) (now (bytes .entry)) q ⌝ }
 {
-    prepare(text, q, said, a, b, c, d, work);
-    replay_calls::call(q.code, q.part, sizes, deltas, words, a, b, c, d, work, said);
+    prepare(text, q, said, a, b, c, d, e, work);
+    replay_calls::call(
+        q.code,
+        q.part,
+        sizes,
+        deltas,
+        words,
+        bytes,
+        a,
+        b,
+        c,
+        d,
+        e,
+        work,
+        said,
+    );
 }

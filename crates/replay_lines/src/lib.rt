@@ -1,10 +1,6 @@
-// The lines that the programs `replay` and `replay_files` write. No contract can say what is written; what is counted is proved elsewhere.
+// The lines that the program `replay` writes. No contract can say what is written; what is counted is proved elsewhere.
+use replay_one::Compared;
 use replayed::Difference;
-
-// What a list is of.
-pub const PIECES: usize = 0;
-
-pub const FILES: usize = 1;
 
 fn call_name(code: usize) {
     let names =
@@ -13,18 +9,18 @@ fn call_name(code: usize) {
     io::write_all(1, texts::nth(names, n));
 }
 
-// The place of an array's name in `list_name`'s texts, by the call's number and its own: 0 the answer, 1 to 4 the lists, 5 the work area.
+// The place of an array's name in `list_name`'s texts, by the call's number and its own: 0 the answer, 1 to 5 the lists, 6 the work area.
 fn list_place(code: usize, what: usize) -> usize {
     if what == 0 {
         return 1;
     }
-    if what == 5 {
+    if what == 6 {
         return 2;
     }
     if 11 < code {
         return 14;
     }
-    if 8 < what {
+    if 7 < what {
         return 14;
     }
     match code * 8 + what {
@@ -34,12 +30,11 @@ fn list_place(code: usize, what: usize) -> usize {
         51 | 91 => 6,
         52 | 92 => 7,
         57 => 8,
-        59 => 9,
+        59 | 85 => 9,
         65 => 10,
         66 => 11,
-        81 => 12,
-        82 => 13,
-        83 => 9,
+        83 => 12,
+        84 => 13,
         _ => 0,
     }
 }
@@ -50,17 +45,17 @@ fn list_name(code: usize, what: usize) {
     io::write_all(1, texts::nth(names, list_place(code, what)));
 }
 
-// A line's begin: the piece or file.
-fn begin(kind: usize, item: u64) {
-    io::write_all(1, texts::nth(b"piece \x00file ", kind));
+// A line's begin: the piece.
+fn begin(item: u64) {
+    io::write_all(1, b"piece ");
     io::print_decimal(1, item);
     io::write_all(1, b": ");
 }
 
-// A line where an array differs: of an item the call, its number, and the array.
-pub fn differs(kind: usize, item: u64, call: u64, code: usize, what: usize, found: Difference) {
+// A line where an array differs: of a piece the call, its number, and the array.
+fn differs(item: u64, call: u64, code: usize, what: usize, found: Difference) {
     if let Difference::At(i) = found {
-        begin(kind, item);
+        begin(item);
         io::write_all(1, b"call ");
         io::print_decimal(1, call);
         io::write_all(1, b", ");
@@ -72,36 +67,53 @@ pub fn differs(kind: usize, item: u64, call: u64, code: usize, what: usize, foun
     }
 }
 
+// The lines of a call.
+pub fn differences(item: u64, call: u64, code: usize, r: Compared) {
+    let said = r.said;
+    let a = r.a;
+    let b = r.b;
+    let c = r.c;
+    let d = r.d;
+    let e = r.e;
+    let work = r.work;
+    differs(item, call, code, 0, said);
+    differs(item, call, code, 1, a);
+    differs(item, call, code, 2, b);
+    differs(item, call, code, 3, c);
+    differs(item, call, code, 4, d);
+    differs(item, call, code, 5, e);
+    differs(item, call, code, 6, work);
+}
+
 // A line on the list itself.
-fn says(kind: usize, item: u64, text: &[u8]) {
-    begin(kind, item);
+fn says(item: u64, text: &[u8]) {
+    begin(item);
     io::write_all(1, text);
     io::write_all(1, b"\n");
 }
 
-// A line where an item's number is not the next.
-pub fn another(kind: usize, item: u64) {
-    says(kind, item, b"another number in the list");
+// A line where a piece's number is not the next.
+pub fn another(item: u64) {
+    says(item, b"another number in the list");
 }
 
-// A line where numbers stand behind the last item.
-pub fn more(kind: usize, item: u64) {
-    let what = b"more than the list's pieces\x00more than the list's files";
-    says(kind, item, texts::nth(what, kind));
+// A line where numbers stand behind the last piece.
+pub fn more(item: u64) {
+    says(item, b"more than the list's pieces");
 }
 
 // A line where the list could not be read to its end.
-pub fn fault(kind: usize, item: u64, why: usize) {
+pub fn fault(item: u64, why: usize) {
     let reasons =
         b"too long\x00the list ends early\x00no number where one is due\x00too large a number";
     let n = if replay_text::LARGE < why { 0 } else { why };
-    says(kind, item, texts::nth(reasons, n));
+    says(item, texts::nth(reasons, n));
 }
 
 // The last line.
-pub fn total(kind: usize, items: u64, calls: u64, wrong: u64) {
-    io::print_decimal(1, items);
-    io::write_all(1, texts::nth(b" pieces, \x00 files, ", kind));
+pub fn total(pieces: u64, calls: u64, wrong: u64) {
+    io::print_decimal(1, pieces);
+    io::write_all(1, b" pieces, ");
     io::print_decimal(1, calls);
     io::write_all(1, b" calls, ");
     io::print_decimal(1, wrong);

@@ -18,32 +18,34 @@ use Rattle.replay_one.specs.Comparing.{comparedAt, uncompared, calledAt}
 use Rattle.replay_one.specs.declared.Compared.{Compared}
 
 -- what a call left, list by list
-pub compared-is : (text : List ℕ) (p : Cursor) (s a b c d w : List ℕ) (rs ra rb rc rd : Checked) (z nil : Difference)
+pub compared-is : (text : List ℕ) (p : Cursor) (s a b c d e w : List ℕ) (rs ra rb rc rd re : Checked) (z nil : Difference)
     → rs ≡ checkedAt text s p
     → ra ≡ checkedAt text a (rs .next)
     → rb ≡ checkedAt text b (ra .next)
     → rc ≡ checkedAt text c (rb .next)
     → rd ≡ checkedAt text d (rc .next)
+    → re ≡ checkedAt text e (rd .next)
     → z ≡ difference 0 (cleared w) w
-    → nil ≡ sound (rd .next) z
+    → nil ≡ sound (re .next) z
     → record {
       said = rs .found;
       a = ra .found;
       b = rb .found;
       c = rc .found;
       d = rd .found;
+      e = re .found;
       work = nil;
-      next = rd .next;
-    } ≡ comparedAt text p (left s a b c d w)
+      next = re .next;
+    } ≡ comparedAt text p (left s a b c d e w)
 unfolding comparedAt
-compared-is text p s a b c d w rs ra rb rc rd z nil es ea eb ec ed ez enil = rw (enil, ez, ed, ec, eb, ea, es)
+compared-is text p s a b c d e w rs ra rb rc rd re z nil es ea eb ec ed ee ez enil = rw (enil, ez, ee, ed, ec, eb, ea, es)
 
 -- a call that is asked, made and compared, or not read
-module _ (text : List ℕ) (x : Piece) (p : Cursor) (q : Asked) (r : Compared) (e : q ≡ askedAt text p) where
-  pub called-unread : (q .next .fault ≡ 0 → ⊥) → r ≡ uncompared (q .next) → r ≡ calledAt text x p
+module _ (text : List ℕ) (x : Piece) (bytes : List ℕ) (p : Cursor) (q : Asked) (r : Compared) (e : q ≡ askedAt text p) where
+  pub called-unread : (q .next .fault ≡ 0 → ⊥) → r ≡ uncompared (q .next) → r ≡ calledAt text x bytes p
   unfolding calledAt
   called-unread h er = rw (er, ← e, ne-eqb _ _ h)
 
-  pub called-made : q .next .fault ≡ 0 → r ≡ comparedAt text (q .next) (leaves text x q) → r ≡ calledAt text x p
+  pub called-made : q .next .fault ≡ 0 → r ≡ comparedAt text (q .next) (leaves text x bytes q) → r ≡ calledAt text x bytes p
   unfolding calledAt
   called-made h er = rw (er, ← e, eq-eqb _ _ h)

@@ -14,7 +14,7 @@ use Rattle.replay_calls.specs.Outcomes.{Left}
 use Rattle.replay_lent.specs.Lent.{leaves}
 use Rattle.replay_one.specs.declared.Compared.{Compared}
 
--- what a call left, against the answer and the four lists from the cursor on, and the work area, which is zero
+-- what a call left, against the answer and the five lists from the cursor on, and the work area, which is zero
 unfoldable pub comparedAt : List ℕ → Cursor → Left → Compared
 comparedAt text p l =
     let said = checkedAt text (l .said) p in
@@ -22,26 +22,28 @@ comparedAt text p l =
     let b = checkedAt text (l .b) (a .next) in
     let c = checkedAt text (l .c) (b .next) in
     let d = checkedAt text (l .d) (c .next) in
+    let e = checkedAt text (l .e) (d .next) in
     record {
       said = said .found;
       a = a .found;
       b = b .found;
       c = c .found;
       d = d .found;
-      work = sound (d .next) (difference 0 (cleared (l .work)) (l .work));
-      next = d .next;
+      e = e .found;
+      work = sound (e .next) (difference 0 (cleared (l .work)) (l .work));
+      next = e .next;
     }
 
 -- nothing is compared where the call could not be read
 abbrev pub uncompared : Cursor → Compared
-uncompared p = record { said = Nothing; a = Nothing; b = Nothing; c = Nothing; d = Nothing; work = Nothing; next = p }
+uncompared p = record { said = Nothing; a = Nothing; b = Nothing; c = Nothing; d = Nothing; e = Nothing; work = Nothing; next = p }
 
--- the next call of the text, of a piece, made and compared
-unfoldable pub calledAt : List ℕ → Piece → Cursor → Compared
-calledAt text x p =
+-- the next call of the text, of a piece or a file's bytes, made and compared
+unfoldable pub calledAt : List ℕ → Piece → List ℕ → Cursor → Compared
+calledAt text x bytes p =
     let q = askedAt text p in
-    cond (eqb (q .next .fault) 0) (comparedAt text (q .next) (leaves text x q)) (uncompared (q .next))
+    cond (eqb (q .next .fault) 0) (comparedAt text (q .next) (leaves text x bytes q)) (uncompared (q .next))
 
--- how many of the six differ
+-- how many of the seven differ
 unfoldable pub wrongOf : Compared → ℕ
-wrongOf r = bit (r .said) + bit (r .a) + bit (r .b) + bit (r .c) + bit (r .d) + bit (r .work)
+wrongOf r = bit (r .said) + bit (r .a) + bit (r .b) + bit (r .c) + bit (r .d) + bit (r .e) + bit (r .work)

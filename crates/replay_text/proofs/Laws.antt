@@ -104,14 +104,15 @@ unfolding checkedAt
 checked-is text found w n p next e hn hnext hw he = rw (he, hw, hnext, hn)
 
 -- the head of a call, number by number
-pub asked-is : (text : List ℕ) (p : Cursor) (code part a b c d work : Numbered)
+pub asked-is : (text : List ℕ) (p : Cursor) (code part a b c d e work : Numbered)
     → code ≡ boundedAt true 99 long text p
     → part ≡ boundedAt true mostNarrow large text (code .next)
     → a ≡ boundedAt true mostRoom long text (part .next)
     → b ≡ boundedAt true mostRoom long text (a .next)
     → c ≡ boundedAt true mostRoom long text (b .next)
     → d ≡ boundedAt true mostRoom long text (c .next)
-    → work ≡ boundedAt true mostRoom long text (d .next)
+    → e ≡ boundedAt true mostRoom long text (d .next)
+    → work ≡ boundedAt true mostRoom long text (e .next)
     → record {
       code = code .value;
       part = part .value;
@@ -119,8 +120,9 @@ pub asked-is : (text : List ℕ) (p : Cursor) (code part a b c d work : Numbered
       b = b .value;
       c = c .value;
       d = d .value;
+      e = e .value;
       work = work .value;
       next = work .next;
     } ≡ askedAt text p
 unfolding askedAt
-asked-is text p code part a b c d work ecode epart ea eb ec ed ework = rw (ework, ed, ec, eb, ea, epart, ecode)
+asked-is text p code part a b c d e work ecode epart ea eb ec ed ee ework = rw (ework, ee, ed, ec, eb, ea, epart, ecode)

@@ -1,4 +1,4 @@
--- The head of a call in the text: its number, its part and the room of five arrays.
+-- The head of a call in the text: its number, its part and the room of six arrays.
 use Prim.Native.Nat.{ℕ, _≤_}
 use mathlib.Core.Bool.{true}
 use mathlib.Core.List.{List}
@@ -24,7 +24,8 @@ askedAt text p =
     let b = count mostRoom a in
     let c = count mostRoom b in
     let d = count mostRoom c in
-    let work = count mostRoom d in
+    let e = count mostRoom d in
+    let work = count mostRoom e in
     record {
       code = code .value;
       part = part .value;
@@ -32,6 +33,7 @@ askedAt text p =
       b = b .value;
       c = c .value;
       d = d .value;
+      e = e .value;
       work = work .value;
       next = work .next;
     }
@@ -42,4 +44,5 @@ pub record Within (q : Asked) : Type 0 where
   pub b : q .b ≤ mostRoom
   pub c : q .c ≤ mostRoom
   pub d : q .d ≤ mostRoom
+  pub e : q .e ≤ mostRoom
   pub work : q .work ≤ mostRoom

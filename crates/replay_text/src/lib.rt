@@ -213,6 +213,7 @@ pub struct Asked {
     pub b: usize,
     pub c: usize,
     pub d: usize,
+    pub e: usize,
     pub work: usize,
     pub next: Cursor,
 }
@@ -228,7 +229,8 @@ pub fn next_call(text: &[u8], p: Cursor) -> Asked
     let b = bounded(text, a.next, true, 45056, LONG);
     let c = bounded(text, b.next, true, 45056, LONG);
     let d = bounded(text, c.next, true, 45056, LONG);
-    let work = bounded(text, d.next, true, 45056, LONG);
+    let e = bounded(text, d.next, true, 45056, LONG);
+    let work = bounded(text, e.next, true, 45056, LONG);
     let next = work.next;
     Asked {
         code: code.value as usize,
@@ -237,6 +239,7 @@ pub fn next_call(text: &[u8], p: Cursor) -> Asked
         b: b.value as usize,
         c: c.value as usize,
         d: d.value as usize,
+        e: e.value as usize,
         work: work.value as usize,
         next,
     }

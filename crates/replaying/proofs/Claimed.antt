@@ -17,14 +17,14 @@ use Rattle.replayed.specs.declared.Difference.the-variants.{At, Nothing}
 use Rattle.replay_text.proofs.Faults.{number-sound, bounded-sound, list-sound}
 use Rattle.replay_text.specs.Calls.{askedAt}
 use Rattle.replay_text.specs.Checks.{wantedAt, checkedAt}
-use Rattle.replay_text.specs.Numbers.{numberAt, mostWide, mostNarrow, ends}
+use Rattle.replay_text.specs.Numbers.{numberAt, mostWide, mostNarrow, mostByte, ends}
 use Rattle.replay_text.specs.declared.Cursor.{Cursor}
 use Rattle.replay_text.specs.declared.Numbered.{Numbered}
 use Rattle.replay_calls.specs.Outcomes.{Left}
 use Rattle.replay_one.specs.Comparing.{comparedAt, calledAt, wrongOf}
 use Rattle.replay_lent.specs.Lent.{leaves}
 use Rattle.replaying.specs.Claims.{behind, AsWritten, CallAgrees, Each, PieceAgrees, NoneExactly}
-use Rattle.replaying.specs.Running.{iterate, more, eventsAt, mostSizes, mostEvents, otherThan, pieceAt, callTurn, callStart, callsAt}
+use Rattle.replaying.specs.Running.{iterate, more, eventsAt, mostSizes, mostEvents, mostBytes, otherThan, pieceAt, callTurn, callStart, callsAt}
 use Rattle.replaying.specs.Running.{pieceStart, pieceTurn, pieceCount, begin, piecesAt, oneMore, finished, replayOf}
 use Rattle.replaying.specs.declared.Run.{Run}
 
@@ -67,16 +67,23 @@ module _ (text : List ℕ) (p : Cursor) (l : Left) where
   at-d : Cursor
   at-d = behind text at-c (l .c)
 
+  at-e : Cursor
+  at-e = behind text at-d (l .d)
+
   differs : Cursor → List ℕ → ℕ
   differs q x = bit (difference 0 (wantedAt text (length x) q) x)
 
   module _ (h : comparedAt text p l .next .fault ≡ 0) where
-    at-end : behind text at-d (l .d) .fault ≡ 0
-    unfolding comparedAt checkedAt at-a at-b at-c at-d
+    at-end : behind text at-e (l .e) .fault ≡ 0
+    unfolding comparedAt checkedAt at-a at-b at-c at-d at-e
     at-end = h
 
+    in-e : at-e .fault ≡ 0
+    in-e = list-sound text mostWide (length (l .e)) at-e at-end
+
     in-d : at-d .fault ≡ 0
-    in-d = list-sound text mostWide (length (l .d)) at-d at-end
+    unfolding at-e
+    in-d = list-sound text mostWide (length (l .d)) at-d in-e
 
     in-c : at-c .fault ≡ 0
     unfolding at-d
@@ -92,19 +99,20 @@ module _ (text : List ℕ) (p : Cursor) (l : Left) where
 
     wrong-is : wrongOf (comparedAt text p l)
         ≡ differs p (l .said) + differs at-a (l .a) + differs at-b (l .b) + differs at-c (l .c) + differs at-d (l .d)
-        + bit (difference 0 (cleared (l .work)) (l .work))
-    unfolding wrongOf comparedAt checkedAt differs at-a at-b at-c at-d
+        + differs at-e (l .e) + bit (difference 0 (cleared (l .work)) (l .work))
+    unfolding wrongOf comparedAt checkedAt differs at-a at-b at-c at-d at-e
     wrong-is =
         rw (
           eq-eqb (at-a .fault) 0 in-a,
           eq-eqb (at-b .fault) 0 in-b,
           eq-eqb (at-c .fault) 0 in-c,
           eq-eqb (at-d .fault) 0 in-d,
-          eq-eqb (behind text at-d (l .d) .fault) 0 at-end,
+          eq-eqb (at-e .fault) 0 in-e,
+          eq-eqb (behind text at-e (l .e) .fault) 0 at-end,
         )
 
     pub none-written : wrongOf (comparedAt text p l) ≡ 0 → AsWritten text p l
-    unfolding differs at-a at-b at-c at-d
+    unfolding differs at-a at-b at-c at-d at-e
     none-written e =
         let sum = wrong-is in
         record {
@@ -113,11 +121,12 @@ module _ (text : List ℕ) (p : Cursor) (l : Left) where
           b = none-equal _ _ (omega arith);
           c = none-equal _ _ (omega arith);
           d = none-equal _ _ (omega arith);
+          e = none-equal _ _ (omega arith);
           work = none-equal _ _ (omega arith);
         }
 
     pub written-none : AsWritten text p l → wrongOf (comparedAt text p l) ≡ 0
-    unfolding differs at-a at-b at-c at-d
+    unfolding differs at-a at-b at-c at-d at-e
     written-none w =
         omega (
           arith,
@@ -127,23 +136,24 @@ module _ (text : List ℕ) (p : Cursor) (l : Left) where
           equal-none _ _ (w .b),
           equal-none _ _ (w .c),
           equal-none _ _ (w .d),
+          equal-none _ _ (w .e),
           equal-none _ _ (w .work),
         )
 
 -- a call that was asked and compared, without a fault behind it
-module _ (text : List ℕ) (x : Piece) (p : Cursor) (h : calledAt text x p .next .fault ≡ 0) where
+module _ (text : List ℕ) (x : Piece) (bytes : List ℕ) (p : Cursor) (h : calledAt text x bytes p .next .fault ≡ 0) where
   asked-sound : askedAt text p .next .fault ≡ 0
   unfolding calledAt
   asked-sound = ⊎-elim (λ e. e) (λ e. rw (ne-eqb (askedAt text p .next .fault) 0 e) at h) (by-eq (askedAt text p .next .fault) 0)
 
-  called-is : calledAt text x p ≡ comparedAt text (askedAt text p .next) (leaves text x (askedAt text p))
+  called-is : calledAt text x bytes p ≡ comparedAt text (askedAt text p .next) (leaves text x bytes (askedAt text p))
   unfolding calledAt
   called-is = rw (eq-eqb (askedAt text p .next .fault) 0 asked-sound)
 
-  pub none-agrees : wrongOf (calledAt text x p) ≡ 0 → CallAgrees text x p
+  pub none-agrees : wrongOf (calledAt text x bytes p) ≡ 0 → CallAgrees text x bytes p
   none-agrees e = none-written text _ _ (rw called-is at h) (rw called-is at e)
 
-  pub agrees-none : CallAgrees text x p → wrongOf (calledAt text x p) ≡ 0
+  pub agrees-none : CallAgrees text x bytes p → wrongOf (calledAt text x bytes p) ≡ 0
   agrees-none w = rw called-is (written-none text _ _ (rw called-is at h) w)
 
 -- ---- loops
@@ -175,33 +185,33 @@ module _ {turn : Run → Run} {P : Run → Type 0} (fair : Fair turn P) where
 
 -- ---- the calls of a piece
 
-module _ (text : List ℕ) (x : Piece) where
-  call-keeps : (s : Run) → callTurn text x s .next .fault ≡ 0 → s .next .fault ≡ 0
+module _ (text : List ℕ) (x : Piece) (bytes : List ℕ) where
+  call-keeps : (s : Run) → callTurn text x bytes s .next .fault ≡ 0 → s .next .fault ≡ 0
   unfolding callTurn
   call-keeps s h = ⊎-elim (λ e. e) (λ e. rw (ne-eqb (s .next .fault) 0 e) at h) (by-eq (s .next .fault) 0)
 
-  module _ (s : Run) (h : callTurn text x s .next .fault ≡ 0) where
-    turn-is : callTurn text x s ≡ record {
-      next = calledAt text x (s .next) .next;
+  module _ (s : Run) (h : callTurn text x bytes s .next .fault ≡ 0) where
+    turn-is : callTurn text x bytes s ≡ record {
+      next = calledAt text x bytes (s .next) .next;
       pieces = s .pieces;
       calls = more (s .calls) 1;
-      wrong = more (s .wrong) (wrongOf (calledAt text x (s .next)));
+      wrong = more (s .wrong) (wrongOf (calledAt text x bytes (s .next)));
     }
     unfolding callTurn
     turn-is = rw (eq-eqb (s .next .fault) 0 (call-keeps s h))
 
-    behind-sound : calledAt text x (s .next) .next .fault ≡ 0
+    behind-sound : calledAt text x bytes (s .next) .next .fault ≡ 0
     behind-sound = rw turn-is at h
 
-    call-none : callTurn text x s .wrong ≡ 0 → (s .wrong ≡ 0) × CallAgrees text x (s .next)
+    call-none : callTurn text x bytes s .wrong ≡ 0 → (s .wrong ≡ 0) × CallAgrees text x bytes (s .next)
     call-none e =
-        let both = more-zero (s .wrong) (wrongOf (calledAt text x (s .next))) (rw turn-is at e) in
-        (both .0, none-agrees text x (s .next) behind-sound (both .1))
+        let both = more-zero (s .wrong) (wrongOf (calledAt text x bytes (s .next))) (rw turn-is at e) in
+        (both .0, none-agrees text x bytes (s .next) behind-sound (both .1))
 
-    call-agrees : s .wrong ≡ 0 → CallAgrees text x (s .next) → callTurn text x s .wrong ≡ 0
-    call-agrees e w = rw (turn-is, e, agrees-none text x (s .next) behind-sound w)
+    call-agrees : s .wrong ≡ 0 → CallAgrees text x bytes (s .next) → callTurn text x bytes s .wrong ≡ 0
+    call-agrees e w = rw (turn-is, e, agrees-none text x bytes (s .next) behind-sound w)
 
-  calls-fair : Fair (callTurn text x) (λ (t : Run). CallAgrees text x (t .next))
+  calls-fair : Fair (callTurn text x bytes) (λ (t : Run). CallAgrees text x bytes (t .next))
   calls-fair = record { keeps = call-keeps; none-holds = call-none; holds-none = call-agrees }
 
 -- ---- the pieces
@@ -222,8 +232,9 @@ module _ (due : ℕ) (n : Numbered) (h : n .next .fault ≡ 0) where
 number-read : (text : List ℕ) (due : ℕ) (p : Cursor) → pieceAt text due p .next .fault ≡ 0 → numberAt true text p .next .fault ≡ 0
 unfolding pieceAt eventsAt
 number-read text due p h =
+    let words = list-sound text mostByte mostBytes _ h in
     bounded-sound text true mostEvents 3 _
-    (list-sound text mostNarrow mostSizes _ (list-sound text mostNarrow mostEvents _ (list-sound text mostNarrow mostEvents _ h)))
+    (list-sound text mostNarrow mostSizes _ (list-sound text mostNarrow mostEvents _ (list-sound text mostNarrow mostEvents _ words)))
 
 module _ (text : List ℕ) where
   piece-keeps : (s : Run) → pieceTurn text s .next .fault ≡ 0 → s .next .fault ≡ 0
@@ -234,38 +245,41 @@ module _ (text : List ℕ) where
     given : Piece
     given = pieceAt text (s .pieces) (s .next) .given
 
+    file : List ℕ
+    file = pieceAt text (s .pieces) (s .next) .bytes
+
     count : ℕ
     count = numberAt true text (pieceStart text s .next) .value
 
-    piece-is : pieceTurn text s ≡ iterate count (callTurn text given) (callStart text (pieceStart text s))
-    unfolding pieceTurn callsAt given count
+    piece-is : pieceTurn text s ≡ iterate count (callTurn text given file) (callStart text (pieceStart text s))
+    unfolding pieceTurn callsAt given file count
     piece-is = rw (eq-eqb (s .next .fault) 0 (piece-keeps s h))
 
-    calls-sound : iterate count (callTurn text given) (callStart text (pieceStart text s)) .next .fault ≡ 0
+    calls-sound : iterate count (callTurn text given file) (callStart text (pieceStart text s)) .next .fault ≡ 0
     calls-sound = rw piece-is at h
 
     number-fine : numberAt true text (s .next) .next .fault ≡ 0
     number-fine =
         number-read text (s .pieces) (s .next)
-        (number-sound text true (pieceStart text s .next) (start-sound (calls-fair text given) count (callStart text (pieceStart text s)) calls-sound))
+        (number-sound text true (pieceStart text s .next) (start-sound (calls-fair text given file) count (callStart text (pieceStart text s)) calls-sound))
 
     other-is : pieceAt text (s .pieces) (s .next) .other ≡ otherThan (s .pieces) (numberAt true text (s .next))
     unfolding pieceAt
     other-is = refl
 
     piece-none : pieceTurn text s .wrong ≡ 0 → (s .wrong ≡ 0) × PieceAgrees text s
-    unfolding given count
+    unfolding given file count
     piece-none e =
-        let calls = none-each (calls-fair text given) count (callStart text (pieceStart text s)) calls-sound (rw piece-is at e) in
+        let calls = none-each (calls-fair text given file) count (callStart text (pieceStart text s)) calls-sound (rw piece-is at e) in
         let both = more-zero (s .wrong) (pieceAt text (s .pieces) (s .next) .other) (calls .0) in
         (both .0, record { number = none-due _ _ number-fine (sym other-is ∙ both .1); calls = calls .1 })
 
     piece-agrees : s .wrong ≡ 0 → PieceAgrees text s → pieceTurn text s .wrong ≡ 0
-    unfolding given count
+    unfolding given file count
     piece-agrees e w =
         let none : more (s .wrong) (pieceAt text (s .pieces) (s .next) .other) ≡ 0 =
         rw (e, other-is, due-none (s .pieces) (numberAt true text (s .next)) number-fine (w .number)) in
-        rw piece-is (each-none (calls-fair text given) count (callStart text (pieceStart text s)) calls-sound none (w .calls))
+        rw piece-is (each-none (calls-fair text given file) count (callStart text (pieceStart text s)) calls-sound none (w .calls))
 
   pieces-fair : Fair (pieceTurn text) (PieceAgrees text)
   pieces-fair = record { keeps = piece-keeps; none-holds = piece-none; holds-none = piece-agrees }

@@ -9,12 +9,12 @@ use borrow.Author.Tests.{eq-eqb, ne-eqb}
 use lib.ListN.{length, take, drop, replicate, length-replicate}
 use lib.Seq.{take-append-seam, take-at}
 use Rattle.rules.specs.Piece.{Piece, piece}
-use Rattle.replay_text.specs.Numbers.{Numbers, ListRead, numberAt, boundedAt, listAt, mostNarrow, long}
+use Rattle.replay_text.specs.Numbers.{Numbers, ListRead, numberAt, boundedAt, listAt, mostNarrow, mostByte, long}
 use Rattle.replay_text.specs.declared.Cursor.{Cursor}
 use Rattle.replay_text.specs.declared.Listed.{Listed}
 use Rattle.replay_text.specs.declared.Numbered.{Numbered}
 use Rattle.replay_one.specs.Comparing.{calledAt, wrongOf}
-use Rattle.replaying.specs.Running.{iterate, more, mostSizes, mostEvents, eventsAt, otherThan}
+use Rattle.replaying.specs.Running.{iterate, more, mostSizes, mostEvents, mostBytes, eventsAt, otherThan}
 use Rattle.replaying.specs.Running.{pieceAt, Front, Gave, callTurn, callsAt, pieceTurn}
 use Rattle.replay_one.specs.declared.Compared.{Compared}
 use Rattle.replaying.specs.declared.Given.{Given}
@@ -54,14 +54,14 @@ module _ {S : Type 0} (f : S → S) where
 
 -- ---- one call more
 
-module _ (text : List ℕ) (x : Piece) (s : Run) where
+module _ (text : List ℕ) (x : Piece) (bytes : List ℕ) (s : Run) where
   pub call-turn : (r : Compared) (k calls wrong : ℕ) → s .next .fault ≡ 0
-      → r ≡ calledAt text x (s .next) → calls ≡ more (s .calls) 1 → k ≡ wrongOf r → wrong ≡ more (s .wrong) k
-      → record { next = r .next; pieces = s .pieces; calls = calls; wrong = wrong } ≡ callTurn text x s
+      → r ≡ calledAt text x bytes (s .next) → calls ≡ more (s .calls) 1 → k ≡ wrongOf r → wrong ≡ more (s .wrong) k
+      → record { next = r .next; pieces = s .pieces; calls = calls; wrong = wrong } ≡ callTurn text x bytes s
   unfolding callTurn
   call-turn r k calls wrong h er ec ek ew = rw (eq-eqb _ _ h, ew, ek, ec, er)
 
-  pub call-still : (s .next .fault ≡ 0 → ⊥) → callTurn text x s ≡ s
+  pub call-still : (s .next .fault ≡ 0 → ⊥) → callTurn text x bytes s ≡ s
   unfolding callTurn
   call-still h = rw (ne-eqb _ _ h)
 
@@ -94,36 +94,39 @@ module _ (text : List ℕ) (zeros : ℕ) (p : Cursor) (l₀ l₁ : List ℕ) (r 
         front = rw (ne-eqb _ _ h, e) (take-at (replicate zeros 0) (drop zeros l₁) zeros (length-replicate zeros 0));
       }
 
-pub gave-is : (text : List ℕ) (due : ℕ) (p : Cursor) (number zeros : Numbered) (other : ℕ) (s d w : Listed) (sizes deltas words : List ℕ)
+pub gave-is : (text : List ℕ) (due : ℕ) (p : Cursor) (number zeros : Numbered) (other : ℕ) (s d w b : Listed)
+    (sizes deltas words bytes : List ℕ)
     → number ≡ numberAt true text p
     → other ≡ otherThan due number
     → zeros ≡ boundedAt true mostEvents long text (number .next)
     → Front (listAt mostNarrow text mostSizes (zeros .next)) s sizes
     → Front (eventsAt text (zeros .value) (s .next)) d deltas
     → Front (eventsAt text (zeros .value) (d .next)) w words
+    → Front (listAt mostByte text mostBytes (w .next)) b bytes
     → Gave (pieceAt text due p)
-    (record { other = other; sizes = s .count; deltas = d .count; words = w .count; next = w .next }) sizes deltas words
+    (record { other = other; sizes = s .count; deltas = d .count; words = w .count; bytes = b .count; next = b .next }) sizes deltas words bytes
 unfolding pieceAt
-gave-is text due p number zeros other s d w sizes deltas words en eo ez hs hd hw =
+gave-is text due p number zeros other s d w b sizes deltas words bytes en eo ez hs hd hw hb =
     record {
       other = rw (eo, en);
-      next = hw .next ∙ rw (hd .next, hs .next, ez, en);
-      fits = (hs .fits, hd .fits, hw .fits);
+      next = hb .next ∙ rw (hw .next, hd .next, hs .next, ez, en);
+      fits = (hs .fits, hd .fits, hw .fits, hb .fits);
       given = rw (hs .front, hd .front, hw .front, hd .next, hs .next, ez, en);
+      file = hb .front ∙ rw (hw .next, hd .next, hs .next, ez, en);
     }
 
 -- ---- one piece more
 
 module _ (text : List ℕ) (s : Run) where
-  pub piece-turn : (g : Given) (sizes deltas words : List ℕ) (pieces wrong : ℕ) (r : Run) → s .next .fault ≡ 0
-      → Gave (pieceAt text (s .pieces) (s .next)) g sizes deltas words
+  pub piece-turn : (g : Given) (sizes deltas words bytes : List ℕ) (pieces wrong : ℕ) (r : Run) → s .next .fault ≡ 0
+      → Gave (pieceAt text (s .pieces) (s .next)) g sizes deltas words bytes
       → pieces ≡ more (s .pieces) 1 → wrong ≡ more (s .wrong) (g .other)
-      → r ≡ callsAt text (piece (take (g .sizes) sizes) (take (g .deltas) deltas) (take (g .words) words))
+      → r ≡ callsAt text (piece (take (g .sizes) sizes) (take (g .deltas) deltas) (take (g .words) words)) (take (g .bytes) bytes)
       (record { next = g .next; pieces = pieces; calls = s .calls; wrong = wrong })
       → r ≡ pieceTurn text s
   unfolding pieceTurn
-  piece-turn g sizes deltas words pieces wrong r h gave ep ew er =
-      er ∙ rw (eq-eqb _ _ h, ew, ep, gave .given, gave .next, gave .other)
+  piece-turn g sizes deltas words bytes pieces wrong r h gave ep ew er =
+      er ∙ rw (eq-eqb _ _ h, ew, ep, gave .given, gave .file, gave .next, gave .other)
 
   pub piece-still : (s .next .fault ≡ 0 → ⊥) → pieceTurn text s ≡ s
   unfolding pieceTurn

@@ -6,7 +6,7 @@ use mathlib.Core.Path.{_≡_}
 use lib.Dec.{eqb, ltb}
 use lib.ListN.{length, take, replicate}
 use Rattle.rules.specs.Piece.{Piece, piece}
-use Rattle.replay_text.specs.Numbers.{Numbers, numberAt, boundedAt, listAt, mostNarrow, ends, long}
+use Rattle.replay_text.specs.Numbers.{Numbers, numberAt, boundedAt, listAt, mostNarrow, mostByte, ends, long}
 use Rattle.replay_text.specs.declared.Cursor.{Cursor}
 use Rattle.replay_text.specs.declared.Numbered.{Numbered}
 use Rattle.replay_one.specs.Comparing.{calledAt, wrongOf}
@@ -23,12 +23,15 @@ iterate (suc n) turn s = iterate n turn (turn s)
 abbrev pub more : ℕ → ℕ → ℕ
 more n k = cond (ltb n 1000000000000) (n + k) n
 
--- the numbers of sizes and of events that a piece has room for
+-- the numbers of sizes, events and bytes that a piece or a file has room for
 abbrev pub mostSizes : ℕ
 mostSizes = 4096
 
 abbrev pub mostEvents : ℕ
 mostEvents = 500008
+
+abbrev pub mostBytes : ℕ
+mostBytes = 8192
 
 -- a list of events; where zeros is not 0, so many zeros stand for it
 unfoldable pub eventsAt : List ℕ → ℕ → Cursor → Numbers
@@ -38,10 +41,11 @@ eventsAt text zeros p =
       next = listAt mostNarrow text mostEvents p .next;
     }
 
--- a piece of the text: 1 where its number is another than is due, its arrays, and the cursor behind them
+-- a piece of the text: 1 where its number is another than is due, its arrays, a file's bytes, and the cursor behind them
 pub record PieceRead : Type 0 where
   pub other : ℕ
   pub given : Piece
+  pub bytes : List ℕ
   pub next : Cursor
 
 -- 1 where a number was read and is another than is due
@@ -55,10 +59,12 @@ pieceAt text due p =
     let sizes = listAt mostNarrow text mostSizes (zeros .next) in
     let deltas = eventsAt text (zeros .value) (sizes .next) in
     let words = eventsAt text (zeros .value) (deltas .next) in
+    let bytes = listAt mostByte text mostBytes (words .next) in
     record {
       other = otherThan due number;
       given = piece (sizes .all) (deltas .all) (words .all);
-      next = words .next;
+      bytes = bytes .all;
+      next = bytes .next;
     }
 
 -- the fronts of the arrays after a list, or a piece, was read to them
@@ -67,16 +73,17 @@ pub record Front (n : Numbers) (r : Listed) (l : List ℕ) : Type 0 where
   pub next : r .next ≡ n .next
   pub front : take (r .count) l ≡ n .all
 
-pub record Gave (x : PieceRead) (r : Given) (sizes deltas words : List ℕ) : Type 0 where
+pub record Gave (x : PieceRead) (r : Given) (sizes deltas words bytes : List ℕ) : Type 0 where
   pub other : r .other ≡ x .other
   pub next : r .next ≡ x .next
-  pub fits : (r .sizes ≤ length sizes) × (r .deltas ≤ length deltas) × (r .words ≤ length words)
+  pub fits : (r .sizes ≤ length sizes) × (r .deltas ≤ length deltas) × (r .words ≤ length words) × (r .bytes ≤ length bytes)
   pub given : piece (take (r .sizes) sizes) (take (r .deltas) deltas) (take (r .words) words) ≡ x .given
+  pub file : take (r .bytes) bytes ≡ x .bytes
 
 -- one call more
-unfoldable pub callTurn : List ℕ → Piece → Run → Run
-callTurn text x s =
-    let r = calledAt text x (s .next) in
+unfoldable pub callTurn : List ℕ → Piece → List ℕ → Run → Run
+callTurn text x bytes s =
+    let r = calledAt text x bytes (s .next) in
     cond (eqb (s .next .fault) 0)
     (record { next = r .next; pieces = s .pieces; calls = more (s .calls) 1; wrong = more (s .wrong) (wrongOf r) })
     s
@@ -85,9 +92,9 @@ callTurn text x s =
 abbrev pub callStart : List ℕ → Run → Run
 callStart text s = record { next = numberAt true text (s .next) .next; pieces = s .pieces; calls = s .calls; wrong = s .wrong }
 
-unfoldable pub callsAt : List ℕ → Piece → Run → Run
-callsAt text x s =
-    iterate (numberAt true text (s .next) .value) (callTurn text x) (callStart text s)
+unfoldable pub callsAt : List ℕ → Piece → List ℕ → Run → Run
+callsAt text x bytes s =
+    iterate (numberAt true text (s .next) .value) (callTurn text x bytes) (callStart text s)
 
 -- one piece more: behind its arrays, and then its calls
 abbrev pub pieceStart : List ℕ → Run → Run
@@ -98,7 +105,7 @@ pieceStart text s =
 unfoldable pub pieceTurn : List ℕ → Run → Run
 pieceTurn text s =
     let x = pieceAt text (s .pieces) (s .next) in
-    cond (eqb (s .next .fault) 0) (callsAt text (x .given) (pieceStart text s)) s
+    cond (eqb (s .next .fault) 0) (callsAt text (x .given) (x .bytes) (pieceStart text s)) s
 
 -- a run's begin: nothing counted, behind the count of pieces
 abbrev pub pieceCount : List ℕ → Numbered

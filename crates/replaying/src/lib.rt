@@ -1,11 +1,13 @@
-// A list of a reference's answers, held against the calls: its pieces one after another, each with its calls, counted to the end.
+// A list of a reference's answers, held against the calls: its pieces and files one after another, each with its calls, counted to the end, with a line
+// for each disagreement.
 ghost use Prim.Native.Nat.{_≤_};
 ghost use mathlib.Core.Path.{_≡_};
 ghost use lib.ListN.{length, take};
 ghost use Rattle.rules.specs.Piece.{piece};
-ghost use Rattle.replay_text.specs.Numbers.{listAt, mostNarrow};
-ghost use Rattle.replaying.specs.Running.{more, callTurn, callsAt, mostSizes, mostEvents, eventsAt, otherThan, pieceAt};
+ghost use Rattle.replay_text.specs.Numbers.{listAt, mostNarrow, mostByte};
+ghost use Rattle.replaying.specs.Running.{more, callTurn, callsAt, mostSizes, mostEvents, mostBytes, eventsAt, otherThan, pieceAt};
 ghost use Rattle.replaying.specs.Running.{Front, Gave, pieceTurn, piecesAt, oneMore, finished, replayOf};
+use replay_one::Compared;
 use replay_text::Cursor;
 use replay_text::Listed;
 use replay_text::Numbered;
@@ -20,7 +22,7 @@ pub struct Run {
 
 // A count that stops where no list reaches.
 fn more_of(n: u64, k: u64) -> u64
-    requires { ⌜ k ≤ 6 ⌝ }
+    requires { ⌜ k ≤ 7 ⌝ }
     ensures { λ r. ⌜ r ≡ more n k ⌝ }
 {
     if n < 1000000000000 {
@@ -29,22 +31,41 @@ fn more_of(n: u64, k: u64) -> u64
     n
 }
 
-// One call more.
+// The number of the last piece that was read, or 0.
+fn last(s: Run) -> u64 {
+    if s.pieces == 0 {
+        return 0;
+    }
+    s.pieces - 1
+}
+
+// The lines of a call that disagrees.
+fn tell(text: &[u8], s: Run, index: u64, wrong: u64, r: Compared) {
+    if wrong != 0 {
+        let q = replay_text::next_call(text, s.next);
+        replay_lines::differences(last(s), index, q.code, r);
+    }
+}
+
+// One call more, at an index of the piece's calls.
 fn turn(
     text: &[u8],
     s: Run,
+    index: u64,
     sizes: &[u32],
     deltas: &[u32],
     words: &[u32],
+    bytes: &[u8],
     scratch: &mut [u64; 45056],
     a: &mut [u64; 45056],
     b: &mut [u64; 45056],
     c: &mut [u32; 45056],
     d: &mut [u32; 45056],
+    e: &mut [u32; 45056],
     work: &mut [u64; 45056],
 ) -> Run
     requires { ⌜ s .next .fault ≡ 0 ⌝ }
-    ensures { λ r. ⌜ r ≡ callTurn (now (text .entry)) (piece (now (sizes .entry)) (now (deltas .entry)) (now (words .entry))) s ⌝ }
+    ensures { λ r. ⌜ r ≡ callTurn (now (text .entry)) (piece (now (sizes .entry)) (now (deltas .entry)) (now (words .entry))) (now (bytes .entry)) s ⌝ }
 {
     let r = replay_one::one(
         text,
@@ -52,19 +73,23 @@ fn turn(
         sizes,
         deltas,
         words,
+        bytes,
         scratch,
         a,
         b,
         c,
         d,
+        e,
         work,
     );
     let next = r.next;
+    let wrong = replay_one::count_wrong(r);
+    tell(text, s, index, wrong, r);
     Run {
         next,
         pieces: s.pieces,
         calls: more_of(s.calls, 1),
-        wrong: more_of(s.wrong, replay_one::count_wrong(r)),
+        wrong: more_of(s.wrong, wrong),
     }
 }
 
@@ -75,14 +100,16 @@ fn each_call(
     sizes: &[u32],
     deltas: &[u32],
     words: &[u32],
+    bytes: &[u8],
     scratch: &mut [u64; 45056],
     a: &mut [u64; 45056],
     b: &mut [u64; 45056],
     c: &mut [u32; 45056],
     d: &mut [u32; 45056],
+    e: &mut [u32; 45056],
     work: &mut [u64; 45056],
 ) -> Run
-    ensures { λ r. ⌜ r ≡ callsAt (now (text .entry)) (piece (now (sizes .entry)) (now (deltas .entry)) (now (words .entry))) from ⌝ }
+    ensures { λ r. ⌜ r ≡ callsAt (now (text .entry)) (piece (now (sizes .entry)) (now (deltas .entry)) (now (words .entry))) (now (bytes .entry)) from ⌝ }
 {
     let n = replay_text::number(text, from.next, true);
     let count = n.value;
@@ -99,19 +126,35 @@ fn each_call(
         if p.fault != 0 {
             break;
         }
-        s = turn(text, s, sizes, deltas, words, scratch, a, b, c, d, work);
+        s = turn(
+            text,
+            s,
+            i,
+            sizes,
+            deltas,
+            words,
+            bytes,
+            scratch,
+            a,
+            b,
+            c,
+            d,
+            e,
+            work,
+        );
         i += 1;
     }
     s
 }
 
-// A piece that was read to the fronts of arrays: 1 where its number is another than is due, the length of each array, and the place behind it.
-pub struct Given {
-    pub other: u64,
-    pub sizes: usize,
-    pub deltas: usize,
-    pub words: usize,
-    pub next: Cursor,
+// A piece or file that was read to the fronts of arrays: 1 where its number is another than is due, the length of each array, and the place behind it.
+struct Given {
+    other: u64,
+    sizes: usize,
+    deltas: usize,
+    words: usize,
+    bytes: usize,
+    next: Cursor,
 }
 
 // A list of events; where zeros is not 0, so many zeros stand for it.
@@ -136,7 +179,15 @@ fn read_sizes(text: &[u8], p: Cursor, l: &mut [u32]) -> Listed
     replay_text::narrow_list(text, p, l)
 }
 
-// 1 where a number was read and is another than is due.
+// A file's bytes.
+fn read_bytes(text: &[u8], p: Cursor, l: &mut [u8]) -> Listed
+    requires { ⌜ length (now l) ≡ mostBytes ⌝ }
+    ensures { λ r. ⌜ Front (listAt mostByte (now (text .entry)) mostBytes p) r (now (l .exit)) ⌝ }
+{
+    replay_text::byte_list(text, p, l)
+}
+
+// 1 where a number was read and is another than is due, with a line.
 fn misnumbered(n: Numbered, due: u64) -> u64
     ensures is { λ r. ⌜ r ≡ otherThan due n ⌝ }
     ensures few { λ r. ⌜ r ≤ 1 ⌝ }
@@ -148,19 +199,21 @@ fn misnumbered(n: Numbered, due: u64) -> u64
     if n.value == due {
         return 0;
     }
+    replay_lines::another(due);
     1
 }
 
 // Reads a piece, whose number is due.
-pub fn read_piece(
+fn read_piece(
     text: &[u8],
     p: Cursor,
     due: u64,
     sizes: &mut [u32; 4096],
     deltas: &mut [u32; 500008],
     words: &mut [u32; 500008],
+    bytes: &mut [u8; 8192],
 ) -> Given
-    ensures is { λ r. ⌜ Gave (pieceAt (now (text .entry)) due p) r (now (sizes .exit)) (now (deltas .exit)) (now (words .exit)) ⌝ }
+    ensures is { λ r. ⌜ Gave (pieceAt (now (text .entry)) due p) r (now (sizes .exit)) (now (deltas .exit)) (now (words .exit)) (now (bytes .exit)) ⌝ }
     ensures few { λ r. ⌜ r .other ≤ 1 ⌝ }
 {
     let number = replay_text::number(text, p, true);
@@ -170,12 +223,14 @@ pub fn read_piece(
     let s = read_sizes(text, zeros.next, sizes);
     let d = events(text, s.next, count, deltas);
     let w = events(text, d.next, count, words);
-    let next = w.next;
+    let b = read_bytes(text, w.next, bytes);
+    let next = b.next;
     Given {
         other,
         sizes: s.count,
         deltas: d.count,
         words: w.count,
+        bytes: b.count,
         next,
     }
 }
@@ -188,31 +243,37 @@ fn calls_of(
     sizes: &[u32],
     deltas: &[u32],
     words: &[u32],
+    bytes: &[u8],
     scratch: &mut [u64; 45056],
     a: &mut [u64; 45056],
     b: &mut [u64; 45056],
     c: &mut [u32; 45056],
     d: &mut [u32; 45056],
+    e: &mut [u32; 45056],
     work: &mut [u64; 45056],
 ) -> Run
-    requires { ⌜ (g .sizes ≤ length (now sizes)) × (g .deltas ≤ length (now deltas)) × (g .words ≤ length (now words)) ⌝ }
+    requires { ⌜ (g .sizes ≤ length (now sizes)) × (g .deltas ≤ length (now deltas)) × (g .words ≤ length (now words)) × (g .bytes ≤ length (now bytes)) ⌝ }
     ensures { λ r. ⌜ r ≡ callsAt (now (text .entry))
-        (piece (take (g .sizes) (now (sizes .entry))) (take (g .deltas) (now (deltas .entry))) (take (g .words) (now (words .entry)))) from ⌝ }
+        (piece (take (g .sizes) (now (sizes .entry))) (take (g .deltas) (now (deltas .entry))) (take (g .words) (now (words .entry))))
+        (take (g .bytes) (now (bytes .entry))) from ⌝ }
 {
     let ls = g.sizes;
     let ld = g.deltas;
     let lw = g.words;
+    let lb = g.bytes;
     each_call(
         text,
         from,
         &sizes[..ls],
         &deltas[..ld],
         &words[..lw],
+        &bytes[..lb],
         scratch,
         a,
         b,
         c,
         d,
+        e,
         work,
     )
 }
@@ -224,17 +285,19 @@ fn next_piece(
     sizes: &mut [u32; 4096],
     deltas: &mut [u32; 500008],
     words: &mut [u32; 500008],
+    bytes: &mut [u8; 8192],
     scratch: &mut [u64; 45056],
     a: &mut [u64; 45056],
     b: &mut [u64; 45056],
     c: &mut [u32; 45056],
     d: &mut [u32; 45056],
+    e: &mut [u32; 45056],
     work: &mut [u64; 45056],
 ) -> Run
     requires { ⌜ s .next .fault ≡ 0 ⌝ }
     ensures { λ r. ⌜ r ≡ pieceTurn (now (text .entry)) s ⌝ }
 {
-    let g = read_piece(text, s.next, s.pieces, sizes, deltas, words);
+    let g = read_piece(text, s.next, s.pieces, sizes, deltas, words, bytes);
     let next = g.next;
     let from = Run {
         next,
@@ -249,11 +312,13 @@ fn next_piece(
         sizes,
         deltas,
         words,
+        bytes,
         scratch,
         a,
         b,
         c,
         d,
+        e,
         work,
     )
 }
@@ -264,11 +329,13 @@ fn each_piece(
     sizes: &mut [u32; 4096],
     deltas: &mut [u32; 500008],
     words: &mut [u32; 500008],
+    bytes: &mut [u8; 8192],
     scratch: &mut [u64; 45056],
     a: &mut [u64; 45056],
     b: &mut [u64; 45056],
     c: &mut [u32; 45056],
     d: &mut [u32; 45056],
+    e: &mut [u32; 45056],
     work: &mut [u64; 45056],
 ) -> Run
     ensures { λ r. ⌜ r ≡ piecesAt (now (text .entry)) ⌝ }
@@ -288,7 +355,21 @@ fn each_piece(
         if p.fault != 0 {
             break;
         }
-        s = next_piece(text, s, sizes, deltas, words, scratch, a, b, c, d, work);
+        s = next_piece(
+            text,
+            s,
+            sizes,
+            deltas,
+            words,
+            bytes,
+            scratch,
+            a,
+            b,
+            c,
+            d,
+            e,
+            work,
+        );
         k += 1;
     }
     s
@@ -307,12 +388,13 @@ fn one_more(s: Run) -> Run
     }
 }
 
-// What stands at the end: one disagreement more for a fault, and for a number behind the last piece.
+// What stands at the end: one disagreement more, with a line, for a fault, and for a number behind the last piece.
 fn finish(text: &[u8], s: Run) -> Run
     ensures { λ r. ⌜ r ≡ finished (now (text .entry)) s ⌝ }
 {
     let p = s.next;
     if p.fault != 0 {
+        replay_lines::fault(last(s), p.fault);
         return one_more(s);
     }
     let n = replay_text::number(text, p, true);
@@ -320,6 +402,7 @@ fn finish(text: &[u8], s: Run) -> Run
     if behind.fault == replay_text::ENDS {
         return s;
     }
+    replay_lines::more(last(s));
     one_more(s)
 }
 
@@ -329,17 +412,32 @@ pub fn replay(
     sizes: &mut [u32; 4096],
     deltas: &mut [u32; 500008],
     words: &mut [u32; 500008],
+    bytes: &mut [u8; 8192],
     scratch: &mut [u64; 45056],
     a: &mut [u64; 45056],
     b: &mut [u64; 45056],
     c: &mut [u32; 45056],
     d: &mut [u32; 45056],
+    e: &mut [u32; 45056],
     work: &mut [u64; 45056],
 ) -> Run
     ensures { λ r. ⌜ r ≡ replayOf (now (text .entry)) ⌝ }
 {
     finish(
         text,
-        each_piece(text, sizes, deltas, words, scratch, a, b, c, d, work),
+        each_piece(
+            text,
+            sizes,
+            deltas,
+            words,
+            bytes,
+            scratch,
+            a,
+            b,
+            c,
+            d,
+            e,
+            work,
+        ),
     )
 }

@@ -1,34 +1,44 @@
-//! The calls that the list asks of a piece, with the room lent to each and the reference's answer. Proof-reading is in
-//! `readings`.
+//! The calls that the list asks of a piece or a file, with the room lent to each and the answer: the reference's, or the
+//! second reader's. Proof-reading is in `readings`.
 
 use super::Entry;
 use crate::answers::{Import, Part};
+use crate::piece::Piece;
 use crate::{packed, refusals};
 
-/// A call, the part that it asks for, and the room of its five arrays: two of u64, two of u32, the work area.
+/// How many arrays a call may be lent besides the work area.
+pub const ARRAYS: usize = 5;
+
+/// The room of two arrays of u64, three of u32, and the work area.
+pub type Room = [usize; ARRAYS + 1];
+pub type Lists = [Vec<u64>; ARRAYS];
+
+/// A call, the part that it asks for, and the room of its arrays.
 pub struct Asked {
     pub call: Call,
     pub part: u32,
-    pub room: [usize; 5],
+    pub room: Room,
     /// The refusal's number, or 0 and the values.
     pub answer: Vec<u64>,
-    /// What the first four arrays are to begin with; of proof-reading what they are given as.
-    pub lists: [Vec<u64>; 4],
+    /// What the arrays are to begin with; of proof-reading what they are given as.
+    pub lists: Lists,
 }
 
 /// A call's name, its number, and the names of its lists, empty where it has none.
 #[derive(Clone, Copy)]
-pub struct Call(pub &'static str, pub u32, pub [&'static str; 4]);
+pub struct Call(pub &'static str, pub u32, pub [&'static str; ARRAYS]);
 
-const NONE: [&str; 4] = [""; 4];
+const NONE: [&str; ARRAYS] = [""; ARRAYS];
 const HEAD: Call = Call("head", 1, NONE);
 const PART_COUNT: Call = Call("part count", 2, NONE);
 const PART_HEAD: Call = Call("part head", 3, NONE);
-const BARS: Call = Call("bars", 4, ["starts", "marks", "", ""]);
+const BARS: Call = Call("bars", 4, ["starts", "marks", "", "", ""]);
 const STAFF_SIZE: Call = Call("staff size", 5, NONE);
-const ENGRAVE: Call = Call("engrave", 6, ["keys", "", "counts", "heads"]);
-const AUTOMATION: Call = Call("automation", 7, ["ticks", "", "words", ""]);
-const DIAGNOSTICS: Call = Call("diagnostics", 8, ["places", "details", "", ""]);
+const ENGRAVE: Call = Call("engrave", 6, ["keys", "", "counts", "heads", ""]);
+const AUTOMATION: Call = Call("automation", 7, ["ticks", "", "words", "", ""]);
+const DIAGNOSTICS: Call = Call("diagnostics", 8, ["places", "details", "", "", ""]);
+const READ_SIZE: Call = Call("read size", 9, NONE);
+const READ: Call = Call("read", 10, ["", "", "sizes", "deltas", "words"]);
 
 /// What is asked of a piece. Where `narrow`, also with exactly enough room, and with one element too few in each array.
 pub fn of(entry: &Entry, narrow: bool) -> Vec<Asked> {
@@ -51,9 +61,37 @@ pub fn of(entry: &Entry, narrow: bool) -> Vec<Asked> {
         Ok(list) => {
             let packed::Diagnostics { places, details } = packed::diagnostics(list);
             let answer = vec![0, places.len() as u64];
-            asks.add(DIAGNOSTICS, 0, answer, [places, details, vec![], vec![]]);
+            let lists = [places, details, vec![], vec![], vec![]];
+            asks.add(DIAGNOSTICS, 0, answer, lists);
         }
         Err(number) => asks.refusal(DIAGNOSTICS, 0, *number),
+    }
+    asks.list
+}
+
+/// The same of a file: its size, and its piece.
+pub fn of_file(answer: &Result<Piece, u32>, narrow: bool) -> Vec<Asked> {
+    let mut asks = Asks {
+        list: Vec::new(),
+        work: 0,
+        narrow,
+    };
+    match answer {
+        Ok(piece) => {
+            let Piece {
+                sizes,
+                deltas,
+                words,
+            } = piece.clone();
+            let answer = vec![0, sizes.len() as u64, deltas.len() as u64];
+            asks.plain(READ_SIZE, 0, answer.clone());
+            let lists = [vec![], vec![], wide(sizes), wide(deltas), wide(words)];
+            asks.add(READ, 0, answer, lists);
+        }
+        Err(number) => {
+            asks.refusal(READ_SIZE, 0, *number);
+            asks.refusal(READ, 0, *number);
+        }
     }
     asks.list
 }
@@ -76,7 +114,7 @@ impl Asks {
         self.plain(PART_COUNT, 0, vec![0, parts.into()]);
         let packed::Bars { starts, marks } = packed::bars(&import.bars);
         let answer = vec![0, starts.len() as u64];
-        self.add(BARS, 0, answer, [starts, marks, vec![], vec![]]);
+        self.add(BARS, 0, answer, [starts, marks, vec![], vec![], vec![]]);
         for (number, part) in (0..).zip(&import.parts) {
             self.part(number, part);
         }
@@ -94,7 +132,7 @@ impl Asks {
         } = packed::staff(&part.staff);
         let size = vec![0, counts.len() as u64 / 4, heads.len() as u64];
         self.add(STAFF_SIZE, number, size.clone(), Default::default());
-        let lists = [keys, vec![], wide(counts), wide(heads)];
+        let lists = [keys, vec![], wide(counts), wide(heads), vec![]];
         self.add(ENGRAVE, number, size, lists);
         let packed::Automation {
             counts,
@@ -102,12 +140,8 @@ impl Asks {
             words,
         } = packed::automation(&part.automation);
         let answer = [0].into_iter().chain(counts).map(u64::from).collect();
-        self.add(
-            AUTOMATION,
-            number,
-            answer,
-            [ticks, vec![], wide(words), vec![]],
-        );
+        let lists = [ticks, vec![], wide(words), vec![], vec![]];
+        self.add(AUTOMATION, number, answer, lists);
     }
 
     /// Every call but the diagnostics, refused.
@@ -126,7 +160,7 @@ impl Asks {
     }
 
     fn plain(&mut self, call: Call, part: u32, answer: Vec<u64>) {
-        let room = [0; 5];
+        let room = Room::default();
         let lists = Default::default();
         self.list.push(Asked {
             call,
@@ -138,10 +172,10 @@ impl Asks {
     }
 
     /// A refusal, which comes whatever the room: some of each array.
-    fn refusal(&mut self, call: Call, part: u32, number: u8) {
+    fn refusal(&mut self, call: Call, part: u32, number: impl Into<u64>) {
         let mut room = room(&call, &Default::default(), 2);
         if has_work(&call) {
-            room[4] = 5;
+            room[ARRAYS] = 5;
         }
         self.list.push(Asked {
             call,
@@ -153,8 +187,8 @@ impl Asks {
     }
 
     /// An answered call, with room to spare; where `narrow`, in every way.
-    fn add(&mut self, call: Call, part: u32, answer: Vec<u64>, lists: [Vec<u64>; 4]) {
-        let mut ask = |room, answer: &Vec<u64>, lists: &[Vec<u64>; 4]| {
+    fn add(&mut self, call: Call, part: u32, answer: Vec<u64>, lists: Lists) {
+        let mut ask = |room, answer: &Vec<u64>, lists: &Lists| {
             self.list.push(Asked {
                 call,
                 part,
@@ -166,7 +200,7 @@ impl Asks {
         let work = if has_work(&call) { self.work } else { 0 };
         let with_work = |spare, more| {
             let mut room = room(&call, &lists, spare);
-            room[4] = work + more;
+            room[ARRAYS] = work + more;
             room
         };
         let more = if work > 0 { 3 } else { 0 };
@@ -176,7 +210,7 @@ impl Asks {
         }
         let exact = with_work(0, 0);
         ask(exact, &answer, &lists);
-        for index in (0..5).filter(|&index| exact[index] > 0) {
+        for index in (0..=ARRAYS).filter(|&index| exact[index] > 0) {
             let mut few = exact;
             few[index] -= 1;
             ask(few, &vec![8], &Default::default());
@@ -189,8 +223,8 @@ fn has_work(call: &Call) -> bool {
 }
 
 /// Room for the lists of a call, and so much more in each.
-fn room(call: &Call, lists: &[Vec<u64>; 4], spare: usize) -> [usize; 5] {
-    let mut room = [0; 5];
+fn room(call: &Call, lists: &Lists, spare: usize) -> Room {
+    let mut room = Room::default();
     for ((room, name), list) in room.iter_mut().zip(call.2).zip(lists) {
         if !name.is_empty() {
             *room = list.len() + spare;

@@ -12,9 +12,17 @@ pub struct Calls {
 }
 
 impl Calls {
-    pub(super) fn add(&mut self, asked: &Asked) {
-        let of_call = self.counts.entry((asked.call.1, asked.call.0)).or_default();
-        *of_call.entry(asked.answer[0]).or_default() += 1;
+    pub(super) fn add(&mut self, calls: &[Asked]) {
+        for asked in calls {
+            let of_call = self.counts.entry((asked.call.1, asked.call.0)).or_default();
+            *of_call.entry(asked.answer[0]).or_default() += 1;
+        }
+    }
+
+    /// How many calls of a name gave a number.
+    pub fn of(&self, name: &str, number: u64) -> usize {
+        let named = self.counts.iter().filter(|((_, one), _)| *one == name);
+        named.filter_map(|(_, counts)| counts.get(&number)).sum()
     }
 
     /// All calls.

@@ -1,5 +1,5 @@
-//! A stored list of the reference's answers: pieces chosen for what they reach, and the calls asked of each.
-//! `text` has the form; docs/REPLAY.md describes it.
+//! A stored list of the reference's answers, and a second reader's on files: pieces and files chosen for what they reach,
+//! and the calls asked of each. `text` has the form; docs/REPLAY.md describes it.
 
 mod asked;
 mod calls;
@@ -11,6 +11,7 @@ mod text;
 use crate::answers::Answers;
 use crate::coverage::Report;
 use crate::examples::EXAMPLES;
+use crate::files::{self, tally::Tally};
 use crate::packed::Staff;
 use crate::piece::Piece;
 use crate::reader::Answer;
@@ -19,16 +20,16 @@ pub use calls::Calls;
 pub use changes::Changes;
 use choice::Choice;
 use std::fmt::{Display, Formatter, Result};
-pub use text::numbers;
 
-/// What a list has: its pieces, the changed staffs that are given to proof-read, and its calls.
+/// What a list has: its pieces, the changed staffs that are given to proof-read, its generated files, and its calls.
 pub struct Coverage {
     pub pieces: Report,
     pub changes: Changes,
+    pub files: Tally,
     pub calls: Calls,
 }
 
-/// The list of a seed and what it has. The pieces are chosen from the first `count`.
+/// The list of a seed and what it has. Pieces and files are chosen from the first `count` of each.
 pub fn of_seed(seed: u64, count: u64) -> (String, Coverage) {
     let examples = EXAMPLES.iter().map(|example| answered(example.piece()));
     let mut entries: Vec<_> = examples.collect();
@@ -40,10 +41,12 @@ pub fn of_seed(seed: u64, count: u64) -> (String, Coverage) {
     for entry in &entries {
         pieces.add(&entry.piece, &entry.answers);
     }
-    let (text, calls) = text::list(&entries);
+    let (chosen, files) = files::list::of_seed(seed, count);
+    let (text, calls) = text::list(&entries, &chosen);
     let coverage = Coverage {
         pieces,
         changes,
+        files,
         calls,
     };
     (text, coverage)
@@ -51,7 +54,13 @@ pub fn of_seed(seed: u64, count: u64) -> (String, Coverage) {
 
 impl Display for Coverage {
     fn fmt(&self, out: &mut Formatter) -> Result {
-        write!(out, "{}{}{}", self.pieces, self.changes, self.calls)
+        let Self {
+            pieces,
+            changes,
+            files,
+            calls,
+        } = self;
+        write!(out, "{pieces}{changes}{files}{calls}")
     }
 }
 

@@ -6,7 +6,7 @@ use crate::packed::{self, Staff};
 use crate::reader::{self, Answer};
 use crate::refusals;
 
-const PROOF_READ: Call = Call("proof read", 11, ["keys", "", "counts", "heads"]);
+const PROOF_READ: Call = Call("proof read", 11, ["keys", "", "counts", "heads", ""]);
 
 /// A work area that is too short for any piece.
 const LITTLE: usize = 5;
@@ -62,8 +62,8 @@ fn given(part: u32, staff: &Staff, work: usize, answer: Vec<u64>) -> Asked {
     Asked {
         call: PROOF_READ,
         part,
-        room: [keys.len(), 0, counts.len(), heads.len(), work],
+        room: [keys.len(), 0, counts.len(), heads.len(), 0, work],
         answer,
-        lists: [keys, vec![], wide(counts), wide(heads)],
+        lists: [keys, vec![], wide(counts), wide(heads), vec![]],
     }
 }

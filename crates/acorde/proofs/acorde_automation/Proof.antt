@@ -2,19 +2,22 @@
 use mathlib.Core.Path.{sym, ap}
 use borrow.Author.Needs.{needs}
 use Rattle.automation.specs.Answers.{automationAnswer}
-use Rattle.acorde.proofs.Entered.{automation-entered}
+use Rattle.laws.proofs.Told.{automation-told}
+use Rattle.acorde.specs.Entries.{automationEntry}
 use Rattle.acorde.proofs.acorde_automation.Statement.{statement}
 use Rattle.acorde.proofs.acorde_automation.Tie as tie
 
 returns : tie.Need-returns
 returns c =
     let at-arm = c .before in
-    automation-entered (ap automationAnswer (sym (at-arm .number .given .1))) (at-arm .before .before .before .before .before .before .automation .ensures)
+    automation-told (at-arm .before .before .before .before .before .before .automation .ensures)
+    (ap automationEntry (ap automationAnswer (sym (at-arm .number .given .1))))
 
 returns-2 : tie.Need-returns-2
 returns-2 c =
     let at-arm = c .before in
-    automation-entered (ap automationAnswer (sym (at-arm .c .given .1))) (at-arm .before .before .before .before .before .before .automation .ensures)
+    automation-told (at-arm .before .before .before .before .before .before .automation .ensures)
+    (ap automationEntry (ap automationAnswer (sym (at-arm .c .given .1))))
 
 pub acorde-automation-spec : {M : Type 1} → statement M
 acorde-automation-spec =

@@ -2,7 +2,8 @@
 use mathlib.Core.Path.{sym, ap}
 use borrow.Author.Needs.{needs}
 use Rattle.diagnostics.specs.Answers.{diagnosticsAnswer}
-use Rattle.acorde.proofs.Entered.{diagnostics-entered}
+use Rattle.laws.proofs.Told.{diagnostics-told}
+use Rattle.acorde.specs.Entries.{countEntry}
 use Rattle.acorde.proofs.acorde_diagnostics.Statement.{statement}
 use Rattle.acorde.proofs.acorde_diagnostics.Tie as tie
 
@@ -10,13 +11,13 @@ returns : tie.Need-returns
 returns c =
     let at-arm = c .before in
     let at-lent = at-arm .before .before .before .before in
-    diagnostics-entered (ap diagnosticsAnswer (sym (at-arm .number .given .1))) (at-lent .before .before .before .before .diagnostics .ensures)
+    diagnostics-told (at-lent .before .before .before .before .diagnostics .ensures) (ap countEntry (ap diagnosticsAnswer (sym (at-arm .number .given .1))))
 
 returns-2 : tie.Need-returns-2
 returns-2 c =
     let at-arm = c .before in
     let at-lent = at-arm .before .before .before .before in
-    diagnostics-entered (ap diagnosticsAnswer (sym (at-arm .count .given .1))) (at-lent .before .before .before .before .diagnostics .ensures)
+    diagnostics-told (at-lent .before .before .before .before .diagnostics .ensures) (ap countEntry (ap diagnosticsAnswer (sym (at-arm .count .given .1))))
 
 pub acorde-diagnostics-spec : {M : Type 1} → statement M
 acorde-diagnostics-spec =

@@ -2,18 +2,19 @@
 use mathlib.Core.Path.{sym, ap}
 use borrow.Author.Needs.{needs}
 use Rattle.proofread.specs.Answers.{readAnswer}
-use Rattle.acorde.proofs.Entered.{read-entered}
+use Rattle.laws.proofs.Told.{read-told}
+use Rattle.acorde.specs.Entries.{readingEntry}
 use Rattle.acorde.proofs.acorde_proof_read.Statement.{statement}
 use Rattle.acorde.proofs.acorde_proof_read.Tie as tie
 
 returns : tie.Need-returns
-returns c = read-entered (ap readAnswer (sym (c .before .number .given .1))) (c .before .before .before .before .before .proof-read .ensures)
+returns c = read-told (c .before .before .before .before .before .proof-read .ensures) (ap readingEntry (ap readAnswer (sym (c .before .number .given .1))))
 
 returns-2 : tie.Need-returns-2
 returns-2 c =
     let at-arm = c .before .before in
     rw (c .flag .ensures)
-    (read-entered (ap readAnswer (sym (at-arm .right .given .1))) (at-arm .before .before .before .before .proof-read .ensures))
+    (read-told (at-arm .before .before .before .before .proof-read .ensures) (ap readingEntry (ap readAnswer (sym (at-arm .right .given .1)))))
 
 pub acorde-proof-read-spec : {M : Type 1} → statement M
 acorde-proof-read-spec =

@@ -1,5 +1,5 @@
 -- `acorde_read`: what `read` answers, told as a struct.
-use Rattle.acorde.proofs.Entered.{piece-entered}
+use Rattle.laws.proofs.Told.{piece-told}
 use borrow.Author.Needs.{needs}
 use Rattle.acorde.proofs.acorde_read.Statement.{statement}
 use Rattle.acorde.proofs.acorde_read.Tie as tie
@@ -20,7 +20,7 @@ same-length-3 : tie.Need-same-length-3
 same-length-3 c = search needs
 
 returns : tie.Need-returns
-returns c = piece-entered (c .piece-values .ensures) (c .before .before .before .before .before .before .before .read .ensures)
+returns c = piece-told (c .before .before .before .before .before .before .before .read .ensures) (c .piece-values .ensures)
 
 pub acorde-read-spec : {M : Type 1} → statement M
 acorde-read-spec =

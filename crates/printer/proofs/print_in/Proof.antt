@@ -1,5 +1,4 @@
 -- `printer::print_in` opens the text that was read, and prints what was opened.
-use native.Mathlib.Omega.{arith}
 use borrow.Author.Needs.{needs}
 use Rattle.printer.proofs.Rooms.{ready-work}
 use Rattle.printer.proofs.print_in.Statement.{statement}
@@ -7,19 +6,12 @@ use Rattle.printer.proofs.print_in.Tie as tie
 
 print-opened-requires : tie.Need-print-opened-requires
 print-opened-requires c κs =
-    let at-open = c .before .before .before .before .before .before .before .before .before in
-    let at-slices = at-open .before .before .before in
-    let a = at-slices .before .before .before .before .before .before .before in
+    let at-open = c .before .before .before .before .before .before .before .before in
+    let a = at-open .before .before .before .before .before .before .before in
     let kept = at-open .open-text .kept .1 .1 .1 .1 .1 in
-    let last = at-open .open-text .last .1 .1 .1 .1 .1 in
-    let opens = at-open .open-text .ensures .1 (a .pre .0 .bytes) (a .pre .0 .held) in (
+    let opens = at-open .open-text .ensures .1 (a .pre .bytes) (a .pre .held) in (
       at-open .open-text .ensures .0,
-      (
-        ready-work (at-open .open-text .result) 60000 _ _ (a .args .sizes .now) (a .args .deltas .now) (a .args .words .now)
-            (last .0) (last .1 .0) (kept .1 .1 .0)
-            (opens .ready),
-        (omega (arith, a .pre .1 .1 .0, kept .0), omega (arith, a .pre .1 .1 .1, kept .1 .0)),
-      ),
+      (ready-work (at-open .open-text .result) 60000 _ _ _ _ _ _ _ (kept .1 .1 .0) (opens .ready), search needs),
     )
 
 pub print-in-spec : {M : Type 1} → statement M
@@ -28,7 +20,4 @@ print-in-spec =
     (tie.spec
     (λ c κs. search needs)
     print-opened-requires
-    (λ c. search needs)
-    (λ c. search needs)
-    (λ c. search needs)
-    (λ c. search needs))
+    (λ c. tt))

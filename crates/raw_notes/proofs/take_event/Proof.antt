@@ -1,8 +1,7 @@
 -- `take_event` goes one event on, whatever was paired before: each arm is one case of the pairing's step.
 use mathlib.Core.Path.{refl, _∙_}
-use native.Mathlib.Omega.{arith}
 use Rattle.pairing.specs.declared.Paired.the-variants.{Other, Started, Unmatched}
-use Rattle.raw_notes.proofs.Turns.{turned-open, closing, turned-closed}
+use Rattle.raw_notes.proofs.Turns.{turned-open, note-fits, turned-closed}
 use borrow.Author.Needs.{needs}
 use Rattle.raw_notes.proofs.take_event.Statement.{statement}
 use Rattle.raw_notes.proofs.take_event.Tie as tie
@@ -14,14 +13,7 @@ put-note-requires c κs =
     let pre = at-pair .before .before .before .before .before .pre in
     let a = at-apart .take-apart .ensures in
     let q = rw (at-apart .before .before .p .given .1) at (at-pair .pair-event .ensures (pre .x) (pre .pairs .queues)) in
-    let k = closing (at-pair .pair-event .kept .1 .1 .0) (pre .pairs) q in (
-      omega (arith, k .room, k .within),
-      q .queues .area,
-      k .early,
-      pre .soon,
-      omega (arith, k .key, a .b, c .before .wide .ensures),
-      omega (arith, k .channel, a .a, c .wide2 .ensures),
-    )
+    note-fits (at-pair .pair-event .kept .1 .1 .0) (pre .pairs) q (pre .soon) (c .before .wide .ensures ∙ a .b) (c .wide2 .ensures ∙ a .a)
 
 returns : tie.Need-returns
 returns c x p =

@@ -1,4 +1,4 @@
--- `replay_one::count_wrong` meets its contract: six times 1 or 0.
+-- `replay_one::count_wrong` meets its contract: seven times 1 or 0.
 use borrow.Author.Needs.{needs}
 use mathlib.Core.Path.{refl}
 use native.Mathlib.Omega.{arith}
@@ -9,24 +9,27 @@ use Rattle.replay_one.proofs.count_wrong.Tie as tie
 returns : tie.Need-returns
 unfolding wrongOf
 returns c =
-    let at-different2 = c .before .before .before .before .different2 in
-    let at-different = c .before .before .before .before .before .different in (
+    let at-different3 = c .before .before .before .before .different3 in
+    let at-different2 = c .before .before .before .before .before .different2 in
+    let at-different = c .before .before .before .before .before .before .different in (
       rw (
         at-different .ensures .0,
         at-different2 .ensures .0,
-        c .before .before .before .different3 .ensures .0,
-        c .before .before .different4 .ensures .0,
-        c .before .different5 .ensures .0,
-        c .different6 .ensures .0,
+        at-different3 .ensures .0,
+        c .before .before .before .different4 .ensures .0,
+        c .before .before .different5 .ensures .0,
+        c .before .different6 .ensures .0,
+        c .different7 .ensures .0,
       ) refl,
       omega (
         arith,
         at-different .ensures .1,
         at-different2 .ensures .1,
-        c .before .before .before .different3 .ensures .1,
-        c .before .before .different4 .ensures .1,
-        c .before .different5 .ensures .1,
-        c .different6 .ensures .1,
+        at-different3 .ensures .1,
+        c .before .before .before .different4 .ensures .1,
+        c .before .before .different5 .ensures .1,
+        c .before .different6 .ensures .1,
+        c .different7 .ensures .1,
       ),
     )
 
@@ -35,6 +38,8 @@ count-wrong-spec =
     tie.close
     (tie.spec
     (λ c κs. tt)
+    (λ c κs. tt)
+    (λ c. search needs)
     (λ c κs. tt)
     (λ c. search needs)
     (λ c κs. tt)

@@ -7,18 +7,23 @@ use Rattle.replaying.proofs.calls_of.Tie as tie
 
 slice-aggregate-each-call : tie.Need-slice-aggregate-each-call
 slice-aggregate-each-call c =
-    let start = c .before .before .before .before .before in
+    let start = c .before .before .before .before .before .before in
     sym (length-take-le _ _ (start .pre .0))
 
 slice-aggregate-each-call-2 : tie.Need-slice-aggregate-each-call-2
 slice-aggregate-each-call-2 c =
-    let start = c .before .before .before .before .before .before in
+    let start = c .before .before .before .before .before .before .before in
     sym (length-take-le _ _ (start .pre .1))
 
 slice-aggregate-each-call-3 : tie.Need-slice-aggregate-each-call-3
 slice-aggregate-each-call-3 c =
-    let start = c .before .before .before .before .before .before .before in
+    let start = c .before .before .before .before .before .before .before .before in
     sym (length-take-le _ _ (start .pre .2))
+
+slice-aggregate-each-call-4 : tie.Need-slice-aggregate-each-call-4
+slice-aggregate-each-call-4 c =
+    let start = c .before .before .before .before .before .before .before .before .before in
+    sym (length-take-le _ _ (start .pre .3))
 
 pub calls-of-spec : {M : Type 1} → statement M
 calls-of-spec =
@@ -27,5 +32,6 @@ calls-of-spec =
     slice-aggregate-each-call
     slice-aggregate-each-call-2
     slice-aggregate-each-call-3
+    slice-aggregate-each-call-4
     (λ c κs. search needs)
     (λ c. search needs))

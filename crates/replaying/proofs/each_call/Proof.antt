@@ -9,20 +9,20 @@ use Rattle.replaying.proofs.each_call.Statement.{statement}
 use Rattle.replaying.proofs.each_call.Tie as tie
 
 abbrev Inv-loop : tie.InvT-loop
-Inv-loop text sizes deltas words scratch₀ a₀ b₀ c₀ d₀ work₀ count s₀ i₀ scratch a b c d work s i =
-    Turning (callTurn text (piece sizes deltas words)) count s₀ s i
+Inv-loop text sizes deltas words bytes scratch₀ a₀ b₀ c₀ d₀ e₀ work₀ count s₀ i₀ scratch a b c d e work s i =
+    Turning (callTurn text (piece sizes deltas words) bytes) count s₀ s i
 
 abbrev μ-loop : tie.MeasureT-loop
-μ-loop text sizes deltas words scratch₀ a₀ b₀ c₀ d₀ work₀ count s₀ i₀ scratch a b c d work s i = count - i
+μ-loop text sizes deltas words bytes scratch₀ a₀ b₀ c₀ d₀ e₀ work₀ count s₀ i₀ scratch a b c d e work s i = count - i
 
 turn-requires : tie.Need-turn-requires Inv-loop μ-loop
 turn-requires c κs =
-    let at-if1 = c .before .before .before .before .before .before .if1 in
+    let at-if1 = c .before .before .before .before .before .before .before .if1 in
     at-if1 .left
 
 loop-again : tie.Need-loop-again Inv-loop μ-loop
 loop-again c =
-    let at-loop = c .before .before .before .before .before .before .before .before .before .before .before .loop in
+    let at-loop = c .before .before .before .before .before .before .before .before .before .before .before .before .loop in
     turning-more _ _ _ _ _ (at-loop .inv) _ (c .turn .ensures) (omega arith)
 
 returns : tie.Need-returns Inv-loop μ-loop
@@ -35,7 +35,7 @@ unfolding callsAt
 returns-2 c =
     let at-loop = c .before .before .before .before .loop in
     let at-number = c .before .before .before .before .before .before .number in
-    turning-still _ _ _ _ (at-loop .i) (at-loop .inv) (call-still _ _ _ (c .if1 .taken)) ∙ rw (sym (at-number .ensures))
+    turning-still _ _ _ _ (at-loop .i) (at-loop .inv) (call-still _ _ _ _ (c .if1 .taken)) ∙ rw (sym (at-number .ensures))
 
 pub each-call-spec : {M : Type 1} → statement M
 each-call-spec =

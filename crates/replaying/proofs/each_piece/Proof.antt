@@ -8,20 +8,21 @@ use Rattle.replaying.proofs.each_piece.Statement.{statement}
 use Rattle.replaying.proofs.each_piece.Tie as tie
 
 abbrev Inv-loop : tie.InvT-loop
-Inv-loop text sizes₀ deltas₀ words₀ scratch₀ a₀ b₀ c₀ d₀ work₀ count s₀ k₀ sizes deltas words scratch a b c d work s k =
+Inv-loop text sizes₀ deltas₀ words₀ bytes₀ scratch₀ a₀ b₀ c₀ d₀ e₀ work₀ count s₀ k₀ sizes deltas words bytes scratch a b c d e work s k =
     (count < 2 ^ 64) × Turning (pieceTurn text) count s₀ s k
 
 abbrev μ-loop : tie.MeasureT-loop
-μ-loop text sizes₀ deltas₀ words₀ scratch₀ a₀ b₀ c₀ d₀ work₀ count s₀ k₀ sizes deltas words scratch a b c d work s k = count - k
+μ-loop text sizes₀ deltas₀ words₀ bytes₀ scratch₀ a₀ b₀ c₀ d₀ e₀ work₀ count s₀ k₀ sizes deltas words bytes scratch a b c d e work s k = count - k
 
 next-piece-requires : tie.Need-next-piece-requires Inv-loop μ-loop
 next-piece-requires c κs =
-    let at-if1 = c .before .before .before .before .before .before .before .before .before .if1 in
+    let at-if1 = c .before .before .before .before .before .before .before .before .before .before .before .if1 in
     at-if1 .left
 
 loop-again : tie.Need-loop-again Inv-loop μ-loop
 loop-again c =
-    let at-loop = c .before .before .before .before .before .before .before .before .before .before .before .before .before .before .loop in
+    let back-1 = c .before .before .before .before .before .before .before .before .before .before .before .before in
+    let at-loop = back-1 .before .before .before .before .loop in
     (at-loop .inv .0, turning-more _ _ _ _ _ (at-loop .inv .1) _ (c .next-piece .ensures) (omega arith))
 
 returns : tie.Need-returns Inv-loop μ-loop

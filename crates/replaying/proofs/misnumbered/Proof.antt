@@ -20,7 +20,7 @@ returns-2 c =
 returns-3 : tie.Need-returns-3
 unfolding otherThan
 returns-3 c =
-    (rw (eq-eqb _ _ (c .before .before .if1 .left), ne-eqb _ _ (c .if2 .left)) refl, omega arith)
+    (rw (eq-eqb _ _ (c .before .before .before .if1 .left), ne-eqb _ _ (c .before .if2 .left)) refl, omega arith)
 
 pub misnumbered-spec : {M : Type 1} → statement M
 misnumbered-spec =
@@ -28,4 +28,5 @@ misnumbered-spec =
     (tie.spec
     returns
     returns-2
+    (λ c κs. tt)
     returns-3)

@@ -1,6 +1,6 @@
 -- `automation`: the number, or the four counts; the outputs are those of the call.
 use borrow.Author.Needs.{needs}
-use Rattle.replay_calls.proofs.Told.{automation-told}
+use Rattle.laws.proofs.Told.{automation-told}
 use Rattle.replay_calls.proofs.answers.automation.Statement.{statement}
 use Rattle.replay_calls.proofs.answers.automation.Tie as tie
 

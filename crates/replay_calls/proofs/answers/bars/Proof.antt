@@ -1,6 +1,6 @@
 -- `bars`: the number, or the count; the outputs are those of the call.
 use borrow.Author.Needs.{needs}
-use Rattle.replay_calls.proofs.Told.{bars-told}
+use Rattle.laws.proofs.Told.{bars-told}
 use Rattle.replay_calls.proofs.answers.bars.Statement.{statement}
 use Rattle.replay_calls.proofs.answers.bars.Tie as tie
 

@@ -1,6 +1,6 @@
 -- `diagnostics`: the number, or the count; the outputs and the work area are those of the call.
 use borrow.Author.Needs.{needs}
-use Rattle.replay_calls.proofs.Told.{diagnostics-told}
+use Rattle.laws.proofs.Told.{diagnostics-told}
 use Rattle.replay_calls.proofs.answers.diagnostics.Statement.{statement}
 use Rattle.replay_calls.proofs.answers.diagnostics.Tie as tie
 

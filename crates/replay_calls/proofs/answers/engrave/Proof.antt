@@ -1,6 +1,6 @@
 -- `engrave`: its answer as numbers; the outputs and the work area are those of the call.
 use borrow.Author.Needs.{needs}
-use Rattle.replay_calls.proofs.Told.{engrave-told}
+use Rattle.laws.proofs.Told.{engrave-told}
 use Rattle.replay_calls.proofs.answers.engrave.Statement.{statement}
 use Rattle.replay_calls.proofs.answers.engrave.Tie as tie
 

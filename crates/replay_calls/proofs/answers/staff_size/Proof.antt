@@ -1,6 +1,6 @@
 -- `staff_size`: its answer as numbers; the work area is that of the call.
 use borrow.Author.Needs.{needs}
-use Rattle.replay_calls.proofs.Told.{size-told}
+use Rattle.laws.proofs.Told.{size-told}
 use Rattle.replay_calls.proofs.answers.staff_size.Statement.{statement}
 use Rattle.replay_calls.proofs.answers.staff_size.Tie as tie
 
