@@ -79,7 +79,7 @@ extern "C" {
 #define ACORDE_VERSION "1.1.3"
 #define ACORDE_VERSION_MAJOR 1
 #define ACORDE_VERSION_MINOR 1
-#define ACORDE_VERSION_PATCH 2
+#define ACORDE_VERSION_PATCH 3
 
 /* ---- Limits ------------------------------------------------------------------------------------------------------ */
 
