@@ -239,7 +239,7 @@ static int print_bars(const Piece *x) {
 /* ---- a part ---- */
 
 typedef struct {
-    uint32_t *counts, *heads;
+    uint32_t *counts, *heads, *leftovers;
     uint64_t *keys;
     size_t bars, items;
 } Staff;
@@ -276,14 +276,24 @@ static int print_items(const Staff *s) {
     return 1;
 }
 
+/* The ticks that no item took, if there are any. */
+static void print_leftovers(const Staff *s) {
+    uint64_t ticks = 0;
+    for (size_t i = 0; i < ACORDE_VOICES * s->bars; i++)
+        ticks += s->leftovers[i];
+    if (ticks > 0)
+        printf("  ticks left over %" PRIu64 "\n", ticks);
+}
+
 /* Engraves into lent arrays, and has the staff proof-read. */
 static int print_staff(const Piece *x, uint32_t part, Staff *s, uint64_t *work, size_t work_n) {
     const size_t counts_n = ACORDE_VOICES * s->bars, heads_n = s->items, keys_n = 2 * s->items;
-    AcordeStaff staff =
-        acorde_engrave(PIECE(x), part, s->counts, counts_n, s->heads, heads_n, s->keys, keys_n, work, work_n);
+    AcordeStaff staff = acorde_engrave(PIECE(x), part, s->counts, counts_n, s->heads, heads_n, s->keys, keys_n,
+                                       s->leftovers, counts_n, work, work_n);
     AcordeReading reading;
     if (refused("acorde_engrave", staff.number) || !print_items(s))
         return 0;
+    print_leftovers(s);
     reading = acorde_proof_read(PIECE(x), part, s->counts, counts_n, s->heads, heads_n, s->keys, keys_n, work, work_n);
     if (reading.number == ACORDE_UNEVEN) { /* of this part no verdict can be had */
         puts("  not proof-read");
@@ -326,7 +336,9 @@ static int print_part(const Piece *x, uint32_t part, uint64_t *work, size_t work
     s.counts = lend(ACORDE_VOICES * s.bars, sizeof *s.counts);
     s.heads = lend(s.items, sizeof *s.heads);
     s.keys = lend(2 * s.items, sizeof *s.keys);
+    s.leftovers = lend(ACORDE_VOICES * s.bars, sizeof *s.leftovers);
     ok = print_staff(x, part, &s, work, work_n) && print_automation(x, part);
+    free(s.leftovers);
     free(s.keys);
     free(s.heads);
     free(s.counts);

@@ -38,6 +38,7 @@ run() {
     run first
     run import
     run import examples/first.txt
+    run import examples/twelve.txt
     run import examples/first.mid
     run import examples/second.mid
     head -c 40 examples/first.mid > "$programs/cut.mid"

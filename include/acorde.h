@@ -34,7 +34,8 @@
                                                 every file; never are more than 2 + ACORDE_LARGEST_SIZE,
                                                 ACORDE_MOST_EVENTS and ACORDE_MOST_EVENTS needed
      acorde_bars          starts, marks         ACORDE_MOST_BARS elements each suffice for every piece
-     acorde_engrave       counts, heads, keys   acorde_staff_size tells: 4 * bars, items and 2 * items elements
+     acorde_engrave       counts, heads, keys,  acorde_staff_size tells: 4 * bars, items, 2 * items and 4 * bars
+                          leftovers             elements
      acorde_automation    ticks, out            as many elements each as the part's track has events suffice
      acorde_diagnostics   places, details       as many elements each as the piece has events, + 1, suffice
      all with a work area                       ACORDE_WORK(N) elements, N the most note-ons above velocity 0 in one
@@ -75,11 +76,13 @@ extern "C" {
 /* ---- Version ----------------------------------------------------------------------------------------------------- */
 
 /* Of this header and of the archive built with it. MAJOR grows where a program for the version before may no longer be
-   right, MINOR where something is added. CHANGELOG.md has what changed. */
-#define ACORDE_VERSION "1.1.3"
-#define ACORDE_VERSION_MAJOR 1
-#define ACORDE_VERSION_MINOR 1
-#define ACORDE_VERSION_PATCH 3
+   right, and so wherever an entry's arguments or a layout of bits change: C links a program that was compiled with
+   another header, and says nothing. Compile with the header that came with the archive. MINOR grows where something is
+   added. CHANGELOG.md has what changed. */
+#define ACORDE_VERSION "2.0.0"
+#define ACORDE_VERSION_MAJOR 2
+#define ACORDE_VERSION_MINOR 0
+#define ACORDE_VERSION_PATCH 0
 
 /* ---- Limits ------------------------------------------------------------------------------------------------------ */
 
@@ -403,17 +406,18 @@ AcordeStaff acorde_staff_size(const uint32_t *sizes, size_t sizes_n, const uint3
 
 /* A part's staff. Answers its size, as acorde_staff_size does, and writes
 
-     counts   4 * bars elements: how many items voices 0 to 3 of the first bar have, then those of the next bar
-     heads    one element an item, bar by bar, in a bar voice by voice, in a voice from the bar's start on
-              bits 0-3    code of the written value: 0 longa, 1 breve, 2 whole, 3 half, 4 quarter, 5 eighth,
-                          6 16th, 7 32nd, 8 64th
-              bit  4      1 if it is dotted
-              bit  5      tie-in: 1 if it is not the first piece of its chord in the bar, or the chord began before
-              bit  6      tie-out: 1 if it is not the last piece of its chord in the bar, or the chord ends later
-              bit  7      1 if it is unpitched: the notes that made the chord were all on channel 9
-              bit  8      1 if it is a rest
-              bits 9-31   0
-     keys     two elements an item: bit k of the first for key k, of the second for key 64 + k; a rest has no keys
+     counts      4 * bars elements: how many items voices 0 to 3 of the first bar have, then those of the next bar
+     heads       one element an item, bar by bar, in a bar voice by voice, in a voice from the bar's start on
+                 bits 0-3    code of the written value: 0 longa, 1 breve, 2 whole, 3 half, 4 quarter, 5 eighth,
+                             6 16th, 7 32nd, 8 64th
+                 bit  4      1 if it is dotted
+                 bit  5      tie-in: 1 if it is not the first piece of its chord in the bar, or the chord began before
+                 bit  6      tie-out: 1 if it is not the last piece of its chord in the bar, or the chord ends later
+                 bit  7      1 if it is unpitched: the notes that made the chord were all on channel 9
+                 bit  8      1 if it is a rest
+                 bits 9-31   0
+     keys        two elements an item: bit k of the first for key k, of the second for key 64 + k; a rest has no keys
+     leftovers   4 * bars elements, in the order of the counts: the ticks of the voice in the bar that no item took
 
    The part's notes are snapped (Notes, above), and notes of equal snapped start and end are one chord. Chords are given
    to voices in the order of their starts, of equal starts the one whose highest key is higher first, of equal highest
@@ -422,18 +426,24 @@ AcordeStaff acorde_staff_size(const uint32_t *sizes, size_t sizes_n, const uint3
    to the last chord of the lowest voice whose last chord has that start. Failing that, the voice that ends earliest,
    the lowest of several, is cut short at the new start and takes it. Chords are cut at bar lines, and into the longest
    written values that fit. In a bar in which a voice does not sound, voice 0 has rests and voices 1 to 3 have no items.
-   Ticks that no written value fits are dropped, so that a voice may end before its bar does (a part of number 9,
-   below).
+
+   A written value is a whole number of ticks: acorde_beats times the ticks per quarter. What none fits of a chord or a
+   gap is dropped, so that a voice may end before its bar does: at 12 ticks per quarter the smallest value has 3 ticks,
+   and of 5 ticks 2 are dropped. The leftovers tell how many were, chords and gaps of the voice in the bar together. For
+   voice 0, and for each other voice with a chord that sounds in the bar, the lengths of its items and its leftover add
+   up to ACORDE_BAR_TICKS, at any division (proved). Sounding decides, not the items: a voice may sound and have none,
+   and then its leftover is the whole bar. Voices 1 to 3 have 0 where they do not sound. Of a part that
+   acorde_proof_read does not turn back by number 9 all leftovers are 0 (proved).
 
    A note whose snapped start is at or after the end of the last bar is not written, since bars go to the notes' own
    ends: at 480 ticks per quarter in 4/4 a sole note from 1900 to 1920 makes one bar, snaps to 1920, and its staff is a
    rest. No diagnostic tells of it. A chord that ends after the last bar is cut there and keeps its tie-out.
 
-   Numbers 1 to 8. */
+   Numbers 1 to 8; 8 is for the work area and each of the four outputs, leftovers_n below 4 * bars too. */
 AcordeStaff acorde_engrave(const uint32_t *sizes, size_t sizes_n, const uint32_t *deltas, size_t deltas_n,
                            const uint32_t *words, size_t words_n, uint32_t part, uint32_t *counts, size_t counts_n,
-                           uint32_t *heads, size_t heads_n, uint64_t *keys, size_t keys_n, uint64_t *work,
-                           size_t work_n);
+                           uint32_t *heads, size_t heads_n, uint64_t *keys, size_t keys_n, uint32_t *leftovers,
+                           size_t leftovers_n, uint64_t *work, size_t work_n);
 
 /* An item's head taken apart, and whether item i of a staff has a key. */
 #define ACORDE_HEAD_CODE(h) ((uint32_t)(h) & 15)
@@ -447,8 +457,9 @@ AcordeStaff acorde_engrave(const uint32_t *sizes, size_t sizes_n, const uint32_t
 /* ---- Proof-reading ----------------------------------------------------------------------------------------------- */
 
 /* Whether a staff of a part is right. Counts, heads and keys are laid out as by acorde_engrave, and counts_n, heads_n
-   and keys_n are exactly 4 * bars, items and 2 * items: longer arrays are malformed. The staff may come from anyone,
-   and have any lengths and contents. It is held against the piece's notes and bars, not against another engraving.
+   and keys_n are exactly 4 * bars, items and 2 * items: longer arrays are malformed. Leftovers are not asked for. The
+   staff may come from anyone, and have any lengths and contents. It is held against the piece's notes and bars, not
+   against another engraving.
 
    Yes means all of this. The arrays fit: four counts for each bar of the piece, as many heads as the counts add up to,
    twice as many keys, and no head has a bit above 8. Every written value is one of staffs: code 0 to 8, a dot or none,

@@ -5,10 +5,10 @@
 
 Run from differential/, after `cargo build --release --offline`. Pieces of at most MOST_EVENTS events (default 45) and 60
 bars are taken. Each becomes two theorems, proved by computing both sides: heads, part heads, bars, staffs, automation,
-diagnostics and refusals of the definitions equal what the reference gave; and the proof-reader's answers to each part's
-staff, as engraved and changed, equal the plain proof-reader's. The theorems stand in a crate of their own below target/,
-over a copy of crates/rules; `holdsN` and `readsN` are those of piece N. Leaves with status 1 where one does not hold, else
-prints how often each answer of the proof-reader was wanted.
+diagnostics and refusals of the definitions equal what the reference gave, leftovers what is told from its bars, voices and
+staff; and the proof-reader's answers to each part's staff, as engraved and changed, equal the plain proof-reader's. The
+theorems stand in a crate of their own below target/, over a copy of crates/rules; `holdsN` and `readsN` are those of piece
+N. Leaves with status 1 where one does not hold, else prints how often each answer of the proof-reader was wanted.
 """
 import pathlib
 import shutil
@@ -34,14 +34,14 @@ use Rattle.rules.specs.Bars.{barsFrom, endOfPiece, barsUpTo, starts, printedFro
 use Rattle.rules.specs.Grid.{isOffGrid, grid}
 use Rattle.rules.specs.Voices.{joinOrOpen, choose, place, voices}
 use Rattle.rules.specs.Values.{values, splitIn, twos}
-use Rattle.rules.specs.Staff.{pieces, filled, voiceIn}
+use Rattle.rules.specs.Staff.{pieces, filled, voiceIn, filledLeft, voiceLeft}
 use Rattle.rules.specs.Items.{StaffArrays, readItems, cutBy, byFours}
 use Rattle.rules.specs.ProofReader.{timedFrom, voiceTimed, heardAfter}
 use Rattle.rules.specs.ProofReaderTests.{full?, tied?, endsMeant?, right?, shaped?, even?}
 use Rattle.rules.specs.Automation.{cancelled, sameMessages, isDropped, AutomationLists, automationLists}
 use Rattle.rules.specs.Diagnostics.{inTracks, diagnostics}
 use Rattle.rules.specs.Refusals.{Result, refused, given as answer, unless, eventRefusals, pieceRefusals}
-use Rattle.rules.specs.Calls.{partArrays, headCall, diagnosticsCall, places, details, partTrack, proofReadCall}
+use Rattle.rules.specs.Calls.{partArrays, partLeftovers, headCall, diagnosticsCall, places, details, partTrack, proofReadCall}
 use Rattle.rules.specs.Examples.{Row, row, given, wanted}
 
 abbrev numberOf : {A : Type 0} → Result A → ℕ
@@ -68,8 +68,8 @@ reading (answer right) = 0 ∷ flag right ∷ []
 
 UNFOLDED = """keep any every position changeFirst insert sortBy sum flatMap flatten sizesAgree wellFormed timed cutTracks
     withoutOldest pairOne rawNotesOf mostNotes joinOrOpen choose place voices grid isOffGrid values splitIn pieces filled
-    voiceIn barsFrom endOfPiece barsUpTo printedFrom marksFrom cancelled sameMessages isDropped automationLists inTracks
-    diagnostics unless eventRefusals pieceRefusals"""
+    voiceIn filledLeft voiceLeft barsFrom endOfPiece barsUpTo printedFrom marksFrom cancelled sameMessages isDropped
+    automationLists inTracks diagnostics unless eventRefusals pieceRefusals"""
 
 READING = """keep any every insert sortBy below sum flatMap sizesAgree wellFormed timed cutTracks withoutOldest pairOne
     rawNotesOf mostNotes grid isOffGrid twos barsFrom endOfPiece barsUpTo readItems cutBy byFours timedFrom voiceTimed
@@ -122,6 +122,14 @@ def staff_rows(name, part, bars, lines):
     return [(f"{arrays} .counts", counts), (f"{arrays} .heads", heads), (f"{arrays} .keys", keys)]
 
 
+def leftovers_row(name, part, bars, lines):
+    left = [0] * (4 * bars)
+    for line in lines:
+        words, named = fields(line)
+        left[4 * (int(words[2]) - 1) + int(words[3])] = int(named["ticks"])
+    return f"partLeftovers {name} {part}", left
+
+
 def automation_row(name, part, lines):
     split = [line.split() for line in lines]
     counts = [sum(words[2] == kind for words in split) for kind in KINDS]
@@ -153,6 +161,7 @@ def rows(name, text):
         out.append((f"marks {name}", [bar_mark(b) for b in bars]))
         for part in range(len(parts)):
             out += staff_rows(name, part, len(bars), of("item", part))
+            out.append(leftovers_row(name, part, len(bars), of("leftover", part)))
             out.append(automation_row(name, part, of("automation", part)))
     if number in (0, 6):
         found = [diagnostic(l) for l in of("diagnostic")]

@@ -52,11 +52,21 @@ pub struct Part {
     pub channel: u8,
     pub program: u8,
     pub staff: Vec<Measure>,
+    pub leftovers: Vec<[Leftover; 4]>,
     pub automation: Automation,
 }
 
 /// The items of one bar, voice by voice.
 pub type Measure = [Vec<Item>; 4];
+
+/// Of a voice in a bar. The reference has none; `reference::leftovers` tells them from its bars, voices and staff.
+#[derive(Debug, Clone, Copy, Default, PartialEq, Eq)]
+pub struct Leftover {
+    /// Some chord sounds in the bar.
+    pub sounds: bool,
+    /// What no item took.
+    pub ticks: u32,
+}
 
 #[derive(Debug, Clone, PartialEq, Eq)]
 pub struct Item {

@@ -14,6 +14,7 @@ pub mod coverage;
 pub mod examples;
 pub mod files;
 pub mod generate;
+pub mod leftovers;
 pub mod lent;
 #[cfg(feature = "library")]
 pub mod library;

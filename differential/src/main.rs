@@ -8,6 +8,8 @@ use differential::compare::Rooms;
 use differential::coverage::Report;
 use differential::examples::EXAMPLES;
 use differential::files::{self, Entries};
+#[cfg(feature = "library")]
+use differential::leftovers::Tally;
 use differential::piece::Piece;
 #[cfg(feature = "library")]
 use differential::proofread::{self, Library};
@@ -24,6 +26,7 @@ const USAGE: &str = "usage: differential COMMAND
   generate SEED COUNT  the reference over generated pieces
   piece SEED INDEX     one generated piece
   short SEED INDEX     one of the short pieces of `sweep`
+  halved SEED INDEX    one of the pieces of `leftovers`
   staffs SEED INDEX CHANGES  a generated piece's staffs, engraved and changed, with the plain proof-reader's answers
   list SEED COUNT      a list of the reference's answers, and a second reader's on files, for the program `replay`;
                        coverage on the standard error
@@ -31,6 +34,8 @@ const USAGE: &str = "usage: differential COMMAND
   pages SEED COUNT     the same of generated pieces
   compare SEED COUNT [SECONDS]    the proved library against the reference (feature `library`)
   sweep SEED COUNT [SECONDS]      short pieces in less time: most with exactly enough room alone (feature `library`)
+  leftovers SEED COUNT [SECONDS]  the same on short pieces with notes, half of them of ticks per quarter that are no multiple
+                                  of 16, with counts of leftovers (feature `library`)
   large                           the same on the benchmark's pieces (feature `library`)
   arbitrary SEED COUNT [SECONDS]  the library's entries on arbitrary arrays (feature `library`)
   proofread SEED COUNT [SECONDS]  the library's proof-reader against the plain one (feature `library`)
@@ -58,6 +63,10 @@ fn main() -> ExitCode {
             print!("{}", generate::short(seed, number(index)?).print());
             Ok(())
         }),
+        ["halved", seed, index] => number(seed).and_then(|seed| {
+            print!("{}", generate::halved(seed, number(index)?).print());
+            Ok(())
+        }),
         ["staffs", seed, index, changes] => number(seed).and_then(|seed| {
             print!("{}", staffs::text(seed, number(index)?, number(changes)?));
             Ok(())
@@ -83,6 +92,8 @@ fn main() -> ExitCode {
         ["compare", ref numbers @ ..] => limited(compare, numbers),
         #[cfg(feature = "library")]
         ["sweep", ref numbers @ ..] => limited(sweep, numbers),
+        #[cfg(feature = "library")]
+        ["leftovers", ref numbers @ ..] => limited(leftovers, numbers),
         #[cfg(feature = "library")]
         ["arbitrary", ref numbers @ ..] => limited(arbitrary::run, numbers),
         #[cfg(feature = "library")]
@@ -237,6 +248,28 @@ fn sweep(seed: u64, count: u64, seconds: u64) -> Result<(), String> {
             _ => Rooms::Exact,
         },
     )?;
+    println!("{done}");
+    Ok(())
+}
+
+/// Short pieces with notes, of which every second has ticks per quarter that are no multiple of 16, and what their leftovers
+/// are. Two of 32 are asked with every room.
+#[cfg(feature = "library")]
+fn leftovers(seed: u64, count: u64, seconds: u64) -> Result<(), String> {
+    let mut tally = Tally::default();
+    let done = each(
+        generate::halved,
+        [seed, count, seconds],
+        |index, piece, answers| {
+            let import = answers.import.as_ref().expect("a piece with notes");
+            tally.add(piece, import);
+            match index % 32 {
+                0 | 1 => Rooms::All,
+                _ => Rooms::Exact,
+            }
+        },
+    )?;
+    print!("{tally}");
     println!("{done}");
     Ok(())
 }

@@ -1,6 +1,6 @@
 //! The answers in the array layouts of document 01, to be compared with lent arrays.
 
-use crate::answers::{self, Bar, Diagnostic, Import, Item, Measure};
+use crate::answers::{self, Bar, Diagnostic, Import, Item, Leftover, Measure};
 
 /// Section 4.
 #[derive(Debug, Clone, Default, PartialEq, Eq)]
@@ -79,6 +79,12 @@ pub fn staff(staff: &[Measure]) -> Staff {
         heads: items().map(head).collect(),
         keys: items().flat_map(key_masks).collect(),
     }
+}
+
+/// Four a bar, in the order of the counts.
+pub fn leftovers(leftovers: &[[Leftover; 4]]) -> Vec<u32> {
+    let voices = leftovers.iter().flatten();
+    voices.map(|leftover| leftover.ticks).collect()
 }
 
 fn head(item: &Item) -> u32 {

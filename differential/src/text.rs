@@ -9,6 +9,7 @@
 //! bar B start S length L meter U/L printed 0|1 tempo T key KEY
 //! item P B VOICE code C dots D ties TIES keys K,K spelled NAME,NAME unpitched 0|1
 //! item P B VOICE code C dots D rest
+//! leftover P B VOICE ticks T              where it is above 0
 //! automation P bend|controller|program|pressure tick T word W
 //! diagnostic code C track T event E tick T channel C key K
 //! ```
@@ -16,7 +17,7 @@
 //! KEY is the fifths and `M` (major) or `m`; TIES is `e` (tie-in) or `-`, then `s` (tie-out) or
 //! `-`; NAME is step, sharps and octave. An absent value is `-`. Parts, events and voices count
 //! from 0, bars from 1. The order is that of document 01: head, parts, bars, then part by part
-//! the items and the automation, then the diagnostics.
+//! the items, the leftovers and the automation, then the diagnostics.
 
 use crate::answers::{Answers, Bar, Import, Item, Key, Spelled};
 use std::fmt::{Display, Write};
@@ -120,6 +121,16 @@ fn write_import(out: &mut String, import: &Import) {
                     let bar = index + 1;
                     write_item(out, format_args!("item {number} {bar} {voice}"), item);
                 }
+            }
+        }
+        for (index, voices) in part.leftovers.iter().enumerate() {
+            let voices = voices.iter().enumerate();
+            for (voice, leftover) in voices.filter(|(_, leftover)| leftover.ticks > 0) {
+                let (bar, ticks) = (index + 1, leftover.ticks);
+                line(
+                    out,
+                    format_args!("leftover {number} {bar} {voice} ticks {ticks}"),
+                );
             }
         }
         let kinds = ["bend", "controller", "program", "pressure"];

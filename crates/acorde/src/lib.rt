@@ -289,16 +289,28 @@ pub extern "C" fn acorde_engrave(
     counts: &mut [u32],
     heads: &mut [u32],
     keys: &mut [u64],
+    leftovers: &mut [u32],
     work: &mut [u64],
 ) -> AcordeStaff
     ensures { λ r. ⌜ EngraveCalled staffEntry
         (partSize (piece (now (sizes .entry)) (now (deltas .entry)) (now (words .entry))) part)
         (engraveCall (piece (now (sizes .entry)) (now (deltas .entry)) (now (words .entry))) part
-        (length (now (counts .entry))) (length (now (heads .entry))) (length (now (keys .entry))) (length (now (work .entry))))
-        (now (counts .entry)) (now (heads .entry)) (now (keys .entry)) (now (work .entry))
-        r (now (counts .exit)) (now (heads .exit)) (now (keys .exit)) (now (work .exit)) ⌝ }
+        (length (now (counts .entry))) (length (now (heads .entry))) (length (now (keys .entry))) (length (now (leftovers .entry)))
+        (length (now (work .entry))))
+        (now (counts .entry)) (now (heads .entry)) (now (keys .entry)) (now (leftovers .entry)) (now (work .entry))
+        r (now (counts .exit)) (now (heads .exit)) (now (keys .exit)) (now (leftovers .exit)) (now (work .exit)) ⌝ }
 {
-    match staffs::engrave(sizes, deltas, words, part, counts, heads, keys, work) {
+    match staffs::engrave(
+        sizes,
+        deltas,
+        words,
+        part,
+        counts,
+        heads,
+        keys,
+        leftovers,
+        work,
+    ) {
         StaffAnswer::Refused(number) => AcordeStaff {
             number,
             bars: 0,

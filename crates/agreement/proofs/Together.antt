@@ -10,18 +10,17 @@ use lib.Seq.{take-at}
 use Rattle.rules.specs.Lists.{written}
 use Rattle.rules.specs.Piece.{Piece}
 use Rattle.rules.specs.Bars.{bars}
-use Rattle.rules.specs.Items.{StaffArrays}
 use Rattle.rules.specs.Refusals.{Result, refused, given, Refusal, unless, answers, writes, partRefusals, shortWork, shortOutput, unevenPart}
 use Rattle.rules.specs.Refusals.{asItIs, workNeeded}
-use Rattle.rules.specs.Calls.{StaffSize, partSize, partArrays, partEven, engraveCall}
+use Rattle.rules.specs.Calls.{StaffSize, partSize, partArrays, partLeftovers, partLists, partEven, EngravedLists, engraveCall}
 use Rattle.rules.specs.Calls.{EngraveCalled, proofReadCall, ProofReadCalled}
 use Rattle.laws.specs.Admitted.{Passes}
 use Rattle.laws.proofs.Lists.{All-left, All-right}
 use Rattle.laws.proofs.Refusals.{passes-append, passes-given, given-first, answers-refused, answers-given}
-use Rattle.staffs.proofs.PartSizes.{counts-used, heads-used, keys-used}
+use Rattle.staffs.proofs.PartSizes.{counts-used, heads-used, keys-used, leftovers-used}
 use Rattle.playback.proofs.Demand.{engraved-yes}
 use Rattle.agreement.specs.Together.{Together}
-use Rattle.agreement.specs.Demand.{used}
+use Rattle.agreement.specs.Demand.{used, usedLeftovers}
 
 -- ---- refused or given
 
@@ -63,18 +62,23 @@ front xs l l₁ n e w = rw w (take-at xs (drop (length xs) l) n (sym e))
 
 -- ---- a run of engraving
 
-module _ (x : Piece) (k : ℕ) {counts₀ heads₀ keys₀ work₀ counts₁ heads₁ keys₁ work₁ : List ℕ} {answer : Result StaffSize}
-    (engraved : EngraveCalled asItIs (partSize x k) (engraveCall x k (length counts₀) (length heads₀) (length keys₀) (length work₀))
-    counts₀ heads₀ keys₀ work₀ answer counts₁ heads₁ keys₁ work₁)
+module _ (x : Piece) (k : ℕ) {counts₀ heads₀ keys₀ leftovers₀ work₀ counts₁ heads₁ keys₁ leftovers₁ work₁ : List ℕ} {answer : Result StaffSize}
+    (engraved : EngraveCalled asItIs (partSize x k)
+    (engraveCall x k (length counts₀) (length heads₀) (length keys₀) (length leftovers₀) (length work₀))
+    counts₀ heads₀ keys₀ leftovers₀ work₀ answer counts₁ heads₁ keys₁ leftovers₁ work₁)
   where
     -- the number of an engraving that is refused
-    pub engraving-refused : (n : ℕ) → refused n ≡ answer → Together x k counts₀ heads₀ keys₀ work₀ (refused n) counts₁ heads₁ keys₁ work₁
+    pub engraving-refused : (n : ℕ) → refused n ≡ answer
+        → Together x k counts₀ heads₀ keys₀ leftovers₀ work₀ (refused n) counts₁ heads₁ keys₁ leftovers₁ work₁
     engraving-refused n h =
         record {
-          answered = refused-both _ _ (engraveCall x k (length counts₀) (length heads₀) (length keys₀) (length work₀)) n (h ∙ engraved .answered);
+          answered =
+              refused-both _ _ (engraveCall x k (length counts₀) (length heads₀) (length keys₀) (length leftovers₀) (length work₀)) n
+              (h ∙ engraved .answered);
           counts = engraved .counts;
           heads = engraved .heads;
           keys = engraved .keys;
+          leftovers = engraved .leftovers;
           work = engraved .work;
         }
 
@@ -85,19 +89,20 @@ module _ (x : Piece) (k : ℕ) {counts₀ heads₀ keys₀ work₀ counts₁ hea
           ∷ shortOutput (length counts₀) (partArrays x k .counts)
           ∷ shortOutput (length heads₀) (partArrays x k .heads)
           ∷ shortOutput (length keys₀) (partArrays x k .keys)
+          ∷ shortOutput (length leftovers₀) (partLeftovers x k)
           ∷ []
 
       passed : Passes (partRefusals x k ++ short) × (s ≡ partSize x k)
-      passed = given-passes (λ (s : StaffArrays). partSize x k) (partArrays x k) (partRefusals x k ++ short) s (h ∙ engraved .answered)
+      passed = given-passes (λ (s : EngravedLists). partSize x k) (partLists x k) (partRefusals x k ++ short) s (h ∙ engraved .answered)
 
-      part-passes : Passes (partRefusals x k)
+      pub part-passes : Passes (partRefusals x k)
       part-passes = All-left _ (partRefusals x k) short (passed .0)
 
       rooms : Passes short
       rooms = All-right _ (partRefusals x k) short (passed .0)
 
-      engraves : engraveCall x k (length counts₀) (length heads₀) (length keys₀) (length work₀) ≡ given (partArrays x k)
-      engraves = passes-given (partRefusals x k ++ short) (partArrays x k) (passed .0)
+      engraves : engraveCall x k (length counts₀) (length heads₀) (length keys₀) (length leftovers₀) (length work₀) ≡ given (partLists x k)
+      engraves = passes-given (partRefusals x k ++ short) (partLists x k) (passed .0)
 
       pub counts-fit : 4 * s .bars ≤ length counts₀
       counts-fit = rw (passed .1) (omega (arith, counts-used x k, ltb-false (length counts₀) (length (partArrays x k .counts)) (rooms .1 .0)))
@@ -117,14 +122,21 @@ module _ (x : Piece) (k : ℕ) {counts₀ heads₀ keys₀ work₀ counts₁ hea
           record {
             counts =
                 front (partArrays x k .counts) counts₀ counts₁ _ (counts-used x k)
-                (engraved .counts ∙ ap (λ o. written (writes (λ (s : StaffArrays). s .counts) o) counts₀) r) i;
+                (engraved .counts ∙ ap (λ o. written (writes (λ (s : EngravedLists). s .staff .counts) o) counts₀) r) i;
             heads =
                 front (partArrays x k .heads) heads₀ heads₁ _ (heads-used x k)
-                (engraved .heads ∙ ap (λ o. written (writes (λ (s : StaffArrays). s .heads) o) heads₀) r) i;
+                (engraved .heads ∙ ap (λ o. written (writes (λ (s : EngravedLists). s .staff .heads) o) heads₀) r) i;
             keys =
                 front (partArrays x k .keys) keys₀ keys₁ _ (keys-used x k)
-                (engraved .keys ∙ ap (λ o. written (writes (λ (s : StaffArrays). s .keys) o) keys₀) r) i;
+                (engraved .keys ∙ ap (λ o. written (writes (λ (s : EngravedLists). s .staff .keys) o) keys₀) r) i;
           })
+
+      -- and of the leftovers, the part's
+      pub handed-leftovers : usedLeftovers s leftovers₁ ≡ partLeftovers x k
+      handed-leftovers =
+          rw (passed .1)
+          (front (partLeftovers x k) leftovers₀ leftovers₁ _ (leftovers-used x k)
+          (engraved .leftovers ∙ ap (λ o. written (writes (λ (s : EngravedLists). s .leftovers) o) leftovers₀) engraves))
 
       -- the proof-reader's answer to it, with a work area that has room
       pub read-is : {r : Result Bool} {area₀ area₁ : List ℕ} → workNeeded x ≤ length area₀
@@ -145,20 +157,23 @@ module _ (x : Piece) (k : ℕ) {counts₀ heads₀ keys₀ work₀ counts₁ hea
           answered = read-is (omega (arith, same-work, ltb-false (length work₀) (workNeeded x) (rooms .0))) read
 
           told : (v : Result Bool) → v ≡ unless (unevenPart (partEven x k) ∷ []) true
-              → Together x k counts₀ heads₀ keys₀ work₀ (given (record { size = s; verdict = v })) counts₁ heads₁ keys₁ work₂
+              → Together x k counts₀ heads₀ keys₀ leftovers₀ work₀ (given (record { size = s; verdict = v })) counts₁ heads₁ keys₁ leftovers₁ work₂
           told v e =
               record {
                 answered = rw engraves (λ i. given (record { size = passed .1 i; verdict = e i }));
                 counts = engraved .counts;
                 heads = engraved .heads;
                 keys = engraved .keys;
+                leftovers = engraved .leftovers;
                 work = read .work ∙ ap (λ n. replicate n 0) same-work;
               }
 
           pub read-uneven : {n : ℕ} → refused n ≡ r
-              → Together x k counts₀ heads₀ keys₀ work₀ (given (record { size = s; verdict = refused 9 })) counts₁ heads₁ keys₁ work₂
+              → Together x k counts₀ heads₀ keys₀ leftovers₀ work₀ (given (record { size = s; verdict = refused 9 }))
+              counts₁ heads₁ keys₁ leftovers₁ work₂
           read-uneven e = told (refused 9) (only-nine (partEven x k) (e ∙ answered))
 
           pub read-told : {b : Bool} → given b ≡ r
-              → Together x k counts₀ heads₀ keys₀ work₀ (given (record { size = s; verdict = given b })) counts₁ heads₁ keys₁ work₂
+              → Together x k counts₀ heads₀ keys₀ leftovers₀ work₀ (given (record { size = s; verdict = given b }))
+              counts₁ heads₁ keys₁ leftovers₁ work₂
           read-told {b} e = told (given b) (e ∙ answered)

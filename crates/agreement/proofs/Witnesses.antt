@@ -39,5 +39,6 @@ witnesses =
       short-work = refl;
       together = refl;
       short-heads = refl;
+      short-leftovers = refl;
       uneven-together = refl;
     }

@@ -6,9 +6,8 @@ use mathlib.Core.Path.{_≡_}
 use lib.ListN.{length}
 use Rattle.rules.specs.Lists.{written, cleared}
 use Rattle.rules.specs.Piece.{Piece}
-use Rattle.rules.specs.Items.{StaffArrays}
 use Rattle.rules.specs.Refusals.{Result, refused, given, unless, answers, writes, unevenPart}
-use Rattle.rules.specs.Calls.{StaffSize, partSize, partEven, engraveCall}
+use Rattle.rules.specs.Calls.{StaffSize, partSize, partEven, EngravedLists, engraveCall}
 use Rattle.engraver.specs.Sizes.{sizeOf}
 use Rattle.agreement.specs.declared.BothAnswer as both
 
@@ -24,20 +23,26 @@ bothAnswer (both.the-variants.Uneven s) = given (record { size = sizeOf s; verdi
 bothAnswer (both.the-variants.Read s b) = given (record { size = sizeOf s; verdict = given b })
 
 -- Engraving's number where it is refused, 1 to 8. Else the staff's size, with 9 for an uneven part and yes for an even one: there is no other answer.
-abbrev pub togetherCall : Piece → ℕ → ℕ → ℕ → ℕ → ℕ → Result Checked
-togetherCall x k room-counts room-heads room-keys work =
-    answers (λ (s : StaffArrays). record { size = partSize x k; verdict = unless (unevenPart (partEven x k) ∷ []) true })
-    (engraveCall x k room-counts room-heads room-keys work)
+abbrev pub togetherCall : Piece → ℕ → ℕ → ℕ → ℕ → ℕ → ℕ → Result Checked
+togetherCall x k room-counts room-heads room-keys room-leftovers work =
+    answers (λ (s : EngravedLists). record { size = partSize x k; verdict = unless (unevenPart (partEven x k) ∷ []) true })
+    (engraveCall x k room-counts room-heads room-keys room-leftovers work)
 
 -- after the call: the outputs are as engraving leaves them, unchanged where it was refused
 pub record Together
-    (x : Piece) (k : ℕ) (counts₀ heads₀ keys₀ work₀ : List ℕ) (answer : Result Checked) (counts₁ heads₁ keys₁ work₁ : List ℕ)
+    (x : Piece) (k : ℕ) (counts₀ heads₀ keys₀ leftovers₀ work₀ : List ℕ) (answer : Result Checked) (counts₁ heads₁ keys₁ leftovers₁ work₁ : List ℕ)
     : Type 0 where
-  pub answered : answer ≡ togetherCall x k (length counts₀) (length heads₀) (length keys₀) (length work₀)
+  pub answered : answer ≡ togetherCall x k (length counts₀) (length heads₀) (length keys₀) (length leftovers₀) (length work₀)
   pub counts : counts₁
-      ≡ written (writes (λ (s : StaffArrays). s .counts) (engraveCall x k (length counts₀) (length heads₀) (length keys₀) (length work₀))) counts₀
+      ≡ written (writes (λ (s : EngravedLists). s .staff .counts)
+      (engraveCall x k (length counts₀) (length heads₀) (length keys₀) (length leftovers₀) (length work₀))) counts₀
   pub heads : heads₁
-      ≡ written (writes (λ (s : StaffArrays). s .heads) (engraveCall x k (length counts₀) (length heads₀) (length keys₀) (length work₀))) heads₀
+      ≡ written (writes (λ (s : EngravedLists). s .staff .heads)
+      (engraveCall x k (length counts₀) (length heads₀) (length keys₀) (length leftovers₀) (length work₀))) heads₀
   pub keys : keys₁
-      ≡ written (writes (λ (s : StaffArrays). s .keys) (engraveCall x k (length counts₀) (length heads₀) (length keys₀) (length work₀))) keys₀
+      ≡ written (writes (λ (s : EngravedLists). s .staff .keys)
+      (engraveCall x k (length counts₀) (length heads₀) (length keys₀) (length leftovers₀) (length work₀))) keys₀
+  pub leftovers : leftovers₁
+      ≡ written (writes (λ (s : EngravedLists). s .leftovers)
+      (engraveCall x k (length counts₀) (length heads₀) (length keys₀) (length leftovers₀) (length work₀))) leftovers₀
   pub work : work₁ ≡ cleared work₀

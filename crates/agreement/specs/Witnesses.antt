@@ -36,6 +36,8 @@ pub record Witnesses : Type 0 where
   pub unfilled-no : proofReadCall printedPiece 0 unfilled 4112 ≡ given false
   pub uneven : proofReadCall unevenPiece 0 printedStaff 4112 ≡ refused 9
   pub short-work : proofReadCall printedPiece 0 printedStaff 4111 ≡ refused 8
-  pub together : togetherCall printedPiece 0 4 2 4 4112 ≡ given (record { size = record { bars = 1; items = 2 }; verdict = given true })
-  pub short-heads : togetherCall printedPiece 0 4 1 4 4112 ≡ refused 8
-  pub uneven-together : togetherCall unevenPiece 0 100 100 100 4112 ≡ given (record { size = record { bars = 1; items = 2 }; verdict = refused 9 })
+  pub together : togetherCall printedPiece 0 4 2 4 4 4112 ≡ given (record { size = record { bars = 1; items = 2 }; verdict = given true })
+  pub short-heads : togetherCall printedPiece 0 4 1 4 4 4112 ≡ refused 8
+  pub short-leftovers : togetherCall printedPiece 0 4 2 4 3 4112 ≡ refused 8
+  pub uneven-together : togetherCall unevenPiece 0 100 100 100 100 4112
+      ≡ given (record { size = record { bars = 1; items = 2 }; verdict = refused 9 })

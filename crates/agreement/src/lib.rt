@@ -13,8 +13,8 @@ pub enum BothAnswer {
     Read(Size, bool),
 }
 
-// Engraves a part into the lent arrays and hands exactly the used part of them to the proof-reader. A refused engraving leaves them unchanged;
-// in the other two cases they hold the staff.
+// Engraves a part into the lent arrays and hands exactly the used part of the staff's three to the proof-reader. A refused engraving leaves them
+// unchanged; in the other two cases they hold the staff and its leftovers.
 pub fn engrave_and_read(
     sizes: &[u32],
     deltas: &[u32],
@@ -23,13 +23,24 @@ pub fn engrave_and_read(
     counts: &mut [u32],
     heads: &mut [u32],
     keys: &mut [u64],
+    leftovers: &mut [u32],
     work: &mut [u64],
 ) -> BothAnswer
     ensures { λ r. ⌜ Together (piece (now (sizes .entry)) (now (deltas .entry)) (now (words .entry))) part
-        (now (counts .entry)) (now (heads .entry)) (now (keys .entry)) (now (work .entry))
-        (bothAnswer r) (now (counts .exit)) (now (heads .exit)) (now (keys .exit)) (now (work .exit)) ⌝ }
+        (now (counts .entry)) (now (heads .entry)) (now (keys .entry)) (now (leftovers .entry)) (now (work .entry))
+        (bothAnswer r) (now (counts .exit)) (now (heads .exit)) (now (keys .exit)) (now (leftovers .exit)) (now (work .exit)) ⌝ }
 {
-    match staffs::engrave(sizes, deltas, words, part, counts, heads, keys, work) {
+    match staffs::engrave(
+        sizes,
+        deltas,
+        words,
+        part,
+        counts,
+        heads,
+        keys,
+        leftovers,
+        work,
+    ) {
         StaffAnswer::Refused(number) => BothAnswer::Refused(number),
         StaffAnswer::Given(size) => {
             let c = 4 * size.bars;

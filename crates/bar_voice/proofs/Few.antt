@@ -39,7 +39,7 @@ gap-few p b e t c = rw length-append (omega (arith, rests-few p (max b (c .start
 
 -- those ahead in a bar
 ahead-few : (p : ℕ) {b e : ℕ} (cs : List Chord) {t : ℕ} → b < e → Ahead b e cs t → length (coming p b e cs t) ≤ e - t
-ahead-few p {b} {e} [] {t} bar g = rw (ahead-none p b e t [] 0 (omega arith)) (rests-few p (e - t))
+ahead-few p {b} {e} [] {t} bar g = rw (ahead-none p b e t [] 0 (omega arith) .items) (rests-few p (e - t))
 ahead-few p {b} {e} (c ∷ cs) {t} bar g =
     elim (by-lt (c .start) e) [
       | inl early ↦
@@ -49,7 +49,7 @@ ahead-few p {b} {e} (c ∷ cs) {t} bar g =
           let late : b < c .end = s .late in
           rw (ahead-more (c ∷ cs) 0 (omega arith) g early p, length-append)
           (omega (arith, gap-few p b e t c, ahead-few p cs bar (ahead-next (c ∷ cs) 0 (omega arith) g early)))
-      | inr late ↦ rw (ahead-late (c ∷ cs) 0 (omega arith) g p late) (rests-few p (e - t))
+      | inr late ↦ rw (ahead-late (c ∷ cs) 0 (omega arith) g p late .items) (rests-few p (e - t))
     ]
 
 pub voice-few : (p : ℕ) (isFirst : Bool) {b e : ℕ} {cs : List Chord} {i : ℕ} → b < e → Line 1 0 cs → Skipped b cs i

@@ -13,41 +13,32 @@ use lib.ListN.{length, take, drop, length-drop, take-append-drop, drop-of-length
 use lib.Seq.{drop-cons, getD-drop}
 use Rattle.rules.specs.Lists.{All, keep, any}
 use Rattle.rules.specs.Items.{Item}
-use Rattle.rules.specs.Staff.{rests, chordIn, soundsIn, filled}
+use Rattle.rules.specs.Staff.{rests, chordIn, soundsIn, filled, restsLeft, filledLeft}
 use Rattle.rules.specs.Voices.{Chord}
 use Rattle.laws.specs.Lines.{Line}
 use Rattle.laws.proofs.Order.{by-lt}
 use Rattle.laws.proofs.Lists.{All-imp, any-kept, keep-none, keep-append}
+use Rattle.laws.proofs.Sounding.{over, not-yet, keep-here}
 use Rattle.items.specs.Writing.{Sounding}
-use Rattle.bar_voice.specs.Voices.{noChord, chordOf, Past, Skipped, gapAndChord}
+use Rattle.bar_voice.specs.Voices.{noChord, chordOf, Past, Skipped, gapAndChord, gapAndChordLeft}
 
 -- ---- chords before, in and after a bar
 
 module _ (b e : ℕ) where
-  over : (c : Chord) → c .end ≤ b → soundsIn b e c ≡ false
-  over c h = rw (le-ltb b (c .end) h)
-
-  not-yet : (c : Chord) → e ≤ c .start → soundsIn b e c ≡ false
-  not-yet c h = rw (le-ltb (c .start) e h) (and-false (ltb b (c .end)))
-
   pub keep-past : {cs : List Chord} {i : ℕ} → Past b cs i → keep (soundsIn b e) cs ≡ keep (soundsIn b e) (drop i cs)
   keep-past {cs} {i} p =
       ap (keep (soundsIn b e)) (sym (take-append-drop i cs)) ∙ keep-append (soundsIn b e) (take i cs) (drop i cs)
-      ∙ rw (keep-none (soundsIn b e) (take i cs) (All-imp over (take i cs) (p .over)))
+      ∙ rw (keep-none (soundsIn b e) (take i cs) (All-imp (over b e) (take i cs) (p .over)))
 
   -- a line of chords that begins at e or later
   all-late : (a : ℕ) (cs : List Chord) → Line 1 a cs → e ≤ a → All (λ (c : Chord). soundsIn b e c ≡ false) cs
   all-late a [] l h = tt
-  all-late a (c ∷ cs) l h = let long : c .start < c .end = l .1 .long in (not-yet c (omega arith), all-late (c .end) cs (l .2) (omega arith))
+  all-late a (c ∷ cs) l h = let long : c .start < c .end = l .1 .long in (not-yet b e c (omega arith), all-late (c .end) cs (l .2) (omega arith))
 
   keep-late : {a : ℕ} (c : Chord) (cs : List Chord) → Line 1 a (c ∷ cs) → e ≤ c .start → keep (soundsIn b e) (c ∷ cs) ≡ []
   keep-late c cs l h =
       let long : c .start < c .end = l .1 .long in
-      keep-none (soundsIn b e) (c ∷ cs) (not-yet c h, all-late (c .end) cs (l .2) (omega arith))
-
-  keep-here : (c : Chord) (cs : List Chord) → b < c .end → c .start < e → keep (soundsIn b e) (c ∷ cs) ≡ c ∷ keep (soundsIn b e) cs
-  unfolding keep
-  keep-here c cs h k = rw (lt-ltb b (c .end) h, lt-ltb (c .start) e k)
+      keep-none (soundsIn b e) (c ∷ cs) (not-yet b e c h, all-late (c .end) cs (l .2) (omega arith))
 
 -- ---- the walk through a bar
 
@@ -60,9 +51,12 @@ pub record Ahead (b e : ℕ) (cs : List Chord) (t : ℕ) : Type 0 where
   pub inside : t ≤ e
   pub first : 0 < length cs → b < chordOf cs 0 .end
 
--- what is to be written of them
+-- what is to be written of them, and what that leaves
 abbrev pub coming : ℕ → ℕ → ℕ → List Chord → ℕ → List Item
 coming p b e cs t = filled p b e t (keep (soundsIn b e) cs)
+
+abbrev pub comingLeft : ℕ → ℕ → ℕ → List Chord → ℕ → ℕ
+comingLeft p b e cs t = filledLeft p b e t (keep (soundsIn b e) cs)
 
 line-drop : (a : ℕ) (cs : List Chord) (i : ℕ) → Line 1 a cs → (c : ℕ) × Line 1 c (drop i cs)
 line-drop a cs zero l = (a, l)
@@ -84,10 +78,19 @@ ahead-start {b} {e} {cs} {i} bar l s =
       first = λ h. let f = first-dropped cs i h in rw (f .1) (s .here (f .0));
     }
 
+-- only rests are ahead
+pub record OnlyRests (p b e : ℕ) (cs : List Chord) (t : ℕ) : Type 0 where
+  pub items : coming p b e cs t ≡ rests p (e - t)
+  pub left : comingLeft p b e cs t ≡ restsLeft p (e - t)
+
+only-rests : (p b e : ℕ) (cs : List Chord) (t : ℕ) → keep (soundsIn b e) cs ≡ [] → OnlyRests p b e cs t
+unfolding filled filledLeft
+only-rests p b e cs t none = record { items = rw none; left = rw none }
+
 -- no chord is left
-pub ahead-none : (p b e t : ℕ) (cs : List Chord) (j : ℕ) → length cs ≤ j → coming p b e (drop j cs) t ≡ rests p (e - t)
-unfolding filled keep
-ahead-none p b e t cs j h = rw (drop-of-length-le cs h)
+pub ahead-none : (p b e t : ℕ) (cs : List Chord) (j : ℕ) → length cs ≤ j → OnlyRests p b e (drop j cs) t
+unfolding keep
+ahead-none p b e t cs j h = only-rests p b e (drop j cs) t (rw (drop-of-length-le cs h))
 
 -- chord j is the next
 module _ {b e t : ℕ} (cs : List Chord) (j : ℕ) (h : j < length cs) (g : Ahead b e (drop j cs) t) where
@@ -100,9 +103,9 @@ module _ {b e t : ℕ} (cs : List Chord) (j : ℕ) (h : j < length cs) (g : Ahea
   open? : b < chordOf cs j .end
   open? = here .first (omega arith)
 
-  pub ahead-late : (p : ℕ) → e ≤ chordOf cs j .start → coming p b e (drop j cs) t ≡ rests p (e - t)
-  unfolding filled
-  ahead-late p late = rw (next, keep-late b e (chordOf cs j) (drop (j + 1) cs) (here .line) late)
+  pub ahead-late : (p : ℕ) → e ≤ chordOf cs j .start → OnlyRests p b e (drop j cs) t
+  ahead-late p late =
+      only-rests p b e (drop j cs) t (rw (next) (keep-late b e (chordOf cs j) (drop (j + 1) cs) (here .line) late))
 
   pub ahead-gap : t ≤ max b (chordOf cs j .start)
   ahead-gap = let l : here .a ≤ chordOf cs j .start = here .line .0 in omega (arith, here .reached)
@@ -111,11 +114,17 @@ module _ {b e t : ℕ} (cs : List Chord) (j : ℕ) (h : j < length cs) (g : Ahea
     pub ahead-sounds : b < e → Sounding (record { start = b; end = e }) (chordOf cs j)
     ahead-sounds bar = record { some-bar = bar; long = here .line .1 .long; early = early; late = open? }
 
+    kept : keep (soundsIn b e) (drop j cs) ≡ chordOf cs j ∷ keep (soundsIn b e) (drop (j + 1) cs)
+    kept = rw next (keep-here b e (chordOf cs j) (drop (j + 1) cs) open? early)
+
     pub ahead-more : (p : ℕ) → coming p b e (drop j cs) t ≡ gapAndChord p b e t (chordOf cs j) ++ coming p b e (drop (j + 1) cs) (min e (chordOf cs j .end))
     unfolding filled gapAndChord
-    ahead-more p =
-        rw (next, keep-here b e (chordOf cs j) (drop (j + 1) cs) open? early)
-        (sym (append-assoc (rests p (max b (chordOf cs j .start) - t)) (chordIn p b e (chordOf cs j)) _))
+    ahead-more p = rw kept (sym (append-assoc (rests p (max b (chordOf cs j .start) - t)) (chordIn p b e (chordOf cs j)) _))
+
+    pub ahead-more-left : (p : ℕ)
+        → comingLeft p b e (drop j cs) t ≡ gapAndChordLeft p b e t (chordOf cs j) + comingLeft p b e (drop (j + 1) cs) (min e (chordOf cs j .end))
+    unfolding filledLeft gapAndChordLeft
+    ahead-more-left p = rw kept (omega arith)
 
     pub ahead-next : Ahead b e (drop (j + 1) cs) (min e (chordOf cs j .end))
     ahead-next =

@@ -1,11 +1,11 @@
 -- A voice in a bar: the chords that stand in the work area, and where the walk along them is.
-use Prim.Native.Nat.{ℕ, _-_, _*_, _≤_, _<_, max}
+use Prim.Native.Nat.{ℕ, _+_, _-_, _*_, _≤_, _<_, max}
 use mathlib.Core.Bool.{Bool, false, cond, _||_}
 use mathlib.Core.List.{List, [], _++_}
 use lib.ListN.{length, getD, take}
 use Rattle.rules.specs.Lists.{All, any, keep}
 use Rattle.rules.specs.Items.{Item}
-use Rattle.rules.specs.Staff.{rests, chordIn, soundsIn, filled}
+use Rattle.rules.specs.Staff.{rests, chordIn, soundsIn, filled, restsLeft, chordLeft, filledLeft}
 use Rattle.rules.specs.Voices.{Chord}
 use Rattle.laws.specs.Lines.{Line}
 use Rattle.laws.specs.Places.{upTo}
@@ -58,3 +58,15 @@ voiceFrom p isFirst b e cs = cond (isFirst || any (soundsIn b e) cs) (filledFrom
 -- rests up to a chord, and the chord
 unfoldable pub gapAndChord : ℕ → ℕ → ℕ → ℕ → Chord → List Item
 gapAndChord p b e t c = rests p (max b (c .start) - t) ++ chordIn p b e c
+
+-- ---- leftovers: of the same chords and gaps
+
+abbrev pub filledLeftFrom : ℕ → ℕ → ℕ → List Chord → ℕ
+filledLeftFrom p b e cs = filledLeft p b e b (keep (soundsIn b e) cs)
+
+-- section 7's `voiceLeft`, of a bar from b to e
+abbrev pub voiceLeftFrom : ℕ → Bool → ℕ → ℕ → List Chord → ℕ
+voiceLeftFrom p isFirst b e cs = cond (isFirst || any (soundsIn b e) cs) (filledLeftFrom p b e cs) 0
+
+unfoldable pub gapAndChordLeft : ℕ → ℕ → ℕ → ℕ → Chord → ℕ
+gapAndChordLeft p b e t c = restsLeft p (max b (c .start) - t) + chordLeft p b e c

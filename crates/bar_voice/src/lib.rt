@@ -1,4 +1,5 @@
-// Section 7: one voice in one bar. Its chords stand in the work area; those that sound in the bar are written as items, with rests for the gaps.
+// Section 7: one voice in one bar. Its chords stand in the work area; those that sound in the bar are written as items, with rests for the gaps;
+// what their values leave of the bar adds up.
 ghost use Prim.Native.Nat.{_+_, _-_, _*_, _<_, _≤_, max};
 ghost use mathlib.Core.Bool.{_&&_};
 ghost use mathlib.Core.Path.{_≡_};
@@ -6,10 +7,12 @@ ghost use lib.Dec.{ltb, eqb};
 ghost use lib.ListN.{length};
 ghost use Rattle.chords.specs.Columns as columns;
 ghost use Rattle.voices.specs.Placing.{numberAt};
-ghost use Rattle.items.specs.Writing.{quarter, IsTable, Room, Items, Sounding};
+ghost use Rattle.items.specs.Writing.{quarter, IsTable, Room, Pushed, startAt, Sounding};
 ghost use Rattle.bar_voice.specs.Voices.{voiceOf, VoiceHeld, chordOf, Past, Skipped, filledFrom, voiceFrom, gapAndChord};
+ghost use Rattle.bar_voice.specs.Voices.{filledLeftFrom, voiceLeftFrom, gapAndChordLeft};
 use chords::VoiceChord;
 use items::Measure;
+use values::Split;
 
 // ---- the walk along a voice
 
@@ -61,16 +64,17 @@ fn push_gap_and_chord(
     c: VoiceChord,
     heads: &mut [u32],
     keys: &mut [u64],
-    from: usize,
-) -> usize
-    requires { ⌜ IsTable (now values) × Sounding bar (columns.chordOf c) × (tick ≤ max (bar .start) (c .start))
-        × Room write (length (gapAndChord (quarter (now values)) (bar .start) (bar .end) tick (columns.chordOf c))) from (now heads) (now keys) ⌝ }
-    ensures { λ r. ⌜ Items write (gapAndChord (quarter (now (values .entry))) (bar .start) (bar .end) tick (columns.chordOf c)) from
+    from: Split,
+) -> Split
+    requires { ⌜ IsTable (now values) × Sounding bar (columns.chordOf c) × (tick ≤ max (bar .start) (c .start)) × (from .left ≤ tick)
+        × Room write (length (gapAndChord (quarter (now values)) (bar .start) (bar .end) tick (columns.chordOf c))) (from .at) (now heads) (now keys) ⌝ }
+    ensures { λ r. ⌜ Pushed write (gapAndChord (quarter (now (values .entry))) (bar .start) (bar .end) tick (columns.chordOf c))
+        (gapAndChordLeft (quarter (now (values .entry))) (bar .start) (bar .end) tick (columns.chordOf c)) from
         (now (heads .entry)) (now (keys .entry)) (now (heads .exit)) (now (keys .exit)) r ⌝ }
 {
     let gap = basics::larger(bar.start, c.start) - tick;
-    let at = items::push_rests(write, values, gap, heads, keys, from);
-    items::push_chord(write, values, bar, c, heads, keys, at)
+    let rests = items::push_rests(write, values, gap, heads, keys, from);
+    items::push_chord(write, values, bar, c, heads, keys, rests)
 }
 
 // The chords of voice v from chord `next` on that sound in the bar, with rests for the gaps.
@@ -86,27 +90,28 @@ fn push_filled(
     heads: &mut [u32],
     keys: &mut [u64],
     from: usize,
-) -> usize
+) -> Split
     requires { ⌜ IsTable (now values) × VoiceHeld n (now work) v len × (bar .start < bar .end)
         × Skipped (bar .start) (voiceOf n (now work) v len) next
         × Room write (length (filledFrom (quarter (now values)) (bar .start) (bar .end) (voiceOf n (now work) v len))) from (now heads) (now keys) ⌝ }
-    ensures { λ r. ⌜ Items write
-        (filledFrom (quarter (now (values .entry))) (bar .start) (bar .end) (voiceOf n (now (work .entry)) v len)) from
+    ensures { λ r. ⌜ Pushed write
+        (filledFrom (quarter (now (values .entry))) (bar .start) (bar .end) (voiceOf n (now (work .entry)) v len))
+        (filledLeftFrom (quarter (now (values .entry))) (bar .start) (bar .end) (voiceOf n (now (work .entry)) v len)) (startAt from)
         (now (heads .entry)) (now (keys .entry)) (now (heads .exit)) (now (keys .exit)) r ⌝ }
 {
-    let mut at = from;
+    let mut s = Split { at: from, left: 0 };
     let mut tick = bar.start;
     let mut j = next;
     while j < len {
         let c = voice_chord(work, n, v, j);
         if bar.end <= c.start {
-            return items::push_rests(write, values, bar.end - tick, heads, keys, at);
+            return items::push_rests(write, values, bar.end - tick, heads, keys, s);
         }
-        at = push_gap_and_chord(write, values, bar, tick, c, heads, keys, at);
+        s = push_gap_and_chord(write, values, bar, tick, c, heads, keys, s);
         tick = items::smaller(bar.end, c.end);
         j += 1;
     }
-    items::push_rests(write, values, bar.end - tick, heads, keys, at)
+    items::push_rests(write, values, bar.end - tick, heads, keys, s)
 }
 
 // Voice v in the bar. Voices 1 to 3 with nothing sounding are empty; voice 0 gets rests.
@@ -122,12 +127,13 @@ pub fn push_voice(
     heads: &mut [u32],
     keys: &mut [u64],
     from: usize,
-) -> usize
+) -> Split
     requires { ⌜ IsTable (now values) × VoiceHeld n (now work) v len × (bar .start < bar .end)
         × Skipped (bar .start) (voiceOf n (now work) v len) next
         × Room write (length (voiceFrom (quarter (now values)) (eqb v 0) (bar .start) (bar .end) (voiceOf n (now work) v len))) from (now heads) (now keys) ⌝ }
-    ensures { λ r. ⌜ Items write
-        (voiceFrom (quarter (now (values .entry))) (eqb v 0) (bar .start) (bar .end) (voiceOf n (now (work .entry)) v len)) from
+    ensures { λ r. ⌜ Pushed write
+        (voiceFrom (quarter (now (values .entry))) (eqb v 0) (bar .start) (bar .end) (voiceOf n (now (work .entry)) v len))
+        (voiceLeftFrom (quarter (now (values .entry))) (eqb v 0) (bar .start) (bar .end) (voiceOf n (now (work .entry)) v len)) (startAt from)
         (now (heads .entry)) (now (keys .entry)) (now (heads .exit)) (now (keys .exit)) r ⌝ }
 {
     if v == 0 {
@@ -136,5 +142,5 @@ pub fn push_voice(
     if sounds(work, n, v, len, next, bar.end) {
         return push_filled(write, values, work, n, v, len, next, bar, heads, keys, from);
     }
-    from
+    Split { at: from, left: 0 }
 }

@@ -1,139 +1,134 @@
 -- What writing a staff comes to, by the room of the outputs.
-use Prim.Native.Nat.{ℕ, _*_, _/_}
-use mathlib.Core.Bool.{true, false, false≢true}
+use Prim.Native.Nat.{ℕ, _*_, _/_, _<_, _≤_}
+use mathlib.Core.Bool.{Bool, true, false, cond, not, _&&_, and-eq-true-iff, false≢true}
 use mathlib.Core.List.{List}
-use mathlib.Core.Logic.{_⊎_, inl, inr, ⊎-elim}
-use mathlib.Core.Path.{_≡_, sym, ap, _∙_}
+use mathlib.Core.Logic.{inl, inr}
+use mathlib.Core.Path.{_≡_, refl, ap, _∙_}
 use native.Mathlib.Omega.{arith}
-use borrow.Author.Tests.{lt-ltb, le-ltb, lt-leb, le-leb}
+use borrow.Author.Tests.{ltb-false, lt-ltb, le-ltb, lt-leb, le-leb}
+use lib.Dec.{ltb, leb}
 use lib.ListN.{length, length-map}
 use Rattle.rules.specs.Bars.{Bar}
-use Rattle.rules.specs.Items.{Staff, StaffArrays, headOf, itemsOf, arraysOf}
+use Rattle.rules.specs.Items.{Staff, headOf, itemsOf}
 use Rattle.rules.specs.Staff.{staffOf}
 use Rattle.rules.specs.Refusals.{Result, refused, given, unless}
-use Rattle.rules.specs.Calls.{StaffSize}
+use Rattle.rules.specs.Calls.{StaffSize, EngravedLists}
 use Rattle.rules.specs.Voices.{Chord}
-use Rattle.laws.proofs.Order.{by-lt}
+use Rattle.laws.proofs.Order.{by-le}
 use Rattle.items.proofs.Appending.{keys-length}
 use Rattle.staff.specs.Staffs.{StaffRoom, StaffPut}
 use Rattle.staff.specs.declared.Engraving.{Engraving}
+use Rattle.laws.proofs.Leftovers.{leftovers-length}
 use Rattle.staff.proofs.StaffSizes.{counts-length}
-use Rattle.engraver.specs.Sizes.{sizeBy, roomFor, outcome, Outputs}
+use Rattle.engraver.specs.Sizes.{sizeBy, listsBy, roomFor, outcome, Outputs}
 
 -- nothing is asked of outputs that are not written
-pub no-room : (st : Staff) (counts heads keys : List ℕ) → StaffRoom false st counts heads keys
-no-room st counts heads keys =
-    record { counts-fit = λ e. absurd (false≢true e); heads-fit = λ e. absurd (false≢true e); keys-fit = λ e. absurd (false≢true e) }
+pub no-room : (st : Staff) (ls counts heads keys leftovers : List ℕ) → StaffRoom false st ls counts heads keys leftovers
+no-room st ls counts heads keys leftovers =
+    record {
+      counts-fit = λ e. absurd (false≢true e);
+      heads-fit = λ e. absurd (false≢true e);
+      keys-fit = λ e. absurd (false≢true e);
+      leftovers-fit = λ e. absurd (false≢true e);
+    }
 
-module _ (p : ℕ) (vs : List (List Chord)) (four : length vs ≡ 4) (bs : List Bar) (counts heads keys : List ℕ) where
+-- n numbers are too long for their output just where its test, that m is at most r, fails
+output-test : (m r n room : ℕ) → (m ≤ r → n ≤ room) → (r < m → room < n) → ltb room n ≡ not (leb m r)
+output-test m r n room fit short =
+    elim (by-le m r) [ inl h ↦ rw (le-leb m r h, le-ltb room n (fit h)) | inr h ↦ rw (lt-leb m r h, lt-ltb room n (short h)) ]
+
+-- four numbers a bar
+fours-test : (m n room : ℕ) → n ≡ 4 * m → ltb room n ≡ not (leb m (room / 4))
+fours-test m n room many = output-test m (room / 4) n room (λ h. omega arith) (λ h. omega arith)
+
+-- refusals of one number, each where its test fails
+module _ {A : Type 0} (x y : A) where
+  four-tests : (s t u v : Bool) → cond (not s) y (cond (not t) y (cond (not u) y (cond (not v) y x))) ≡ cond (s && (t && (u && v))) x y
+  four-tests false t u v = refl
+  four-tests true false u v = refl
+  four-tests true true false v = refl
+  four-tests true true true false = refl
+  four-tests true true true true = refl
+
+module _ (p : ℕ) (vs : List (List Chord)) (four : length vs ≡ 4) (bs : List Bar) (counts heads keys leftovers : List ℕ) where
   abbrev st : Staff
   st = staffOf p vs bs
 
-  abbrev arrays : StaffArrays
-  arrays = arraysOf st
+  abbrev lists : EngravedLists
+  lists = listsBy p bs vs
 
   abbrev size : StaffSize
   size = sizeBy p bs vs
 
-  abbrev result : Result StaffArrays
-  result = outcome arrays (length counts) (length heads) (length keys)
+  abbrev result : Result EngravedLists
+  result = outcome lists (length counts) (length heads) (length keys) (length leftovers)
 
-  counts-many : length (arrays .counts) ≡ 4 * length bs
-  counts-many = counts-length p vs four bs
+  abbrev fits : Bool
+  fits = roomFor size (length counts) (length heads) (length keys) (length leftovers)
 
-  heads-many : length (arrays .heads) ≡ length (itemsOf st)
-  heads-many = length-map (itemsOf st) headOf
+  -- each output's test, and its refusal
+  abbrev counts-fit : Bool
+  counts-fit = leb (length bs) (length counts / 4)
 
-  keys-many : length (arrays .keys) ≡ 2 * length (itemsOf st)
-  keys-many = keys-length (itemsOf st)
+  counts-test : ltb (length counts) (length (lists .staff .counts)) ≡ not counts-fit
+  counts-test = fours-test (length bs) _ (length counts) (counts-length p vs four bs)
 
-  -- each output has room, or one has not
-  pub record Enough : Type 0 where
-    pub told : roomFor size (length counts) (length heads) (length keys) ≡ true
-    pub is : result ≡ given arrays
-    pub room : StaffRoom true st counts heads keys
+  abbrev heads-fit : Bool
+  heads-fit = leb (length (itemsOf st)) (length heads)
 
-  pub record Short : Type 0 where
-    pub told : roomFor size (length counts) (length heads) (length keys) ≡ false
-    pub is : result ≡ refused 8
+  heads-test : ltb (length heads) (length (lists .staff .heads)) ≡ not heads-fit
+  heads-test = rw (length-map (itemsOf st) headOf) (output-test (length (itemsOf st)) (length heads) _ (length heads) (λ h. h) (λ h. h))
 
-  by-room : Enough ⊎ Short
+  abbrev keys-fit : Bool
+  keys-fit = leb (length (itemsOf st)) (length keys / 2)
+
+  keys-test : ltb (length keys) (length (lists .staff .keys)) ≡ not keys-fit
+  keys-test =
+      let many = keys-length (itemsOf st) in
+      output-test (length (itemsOf st)) (length keys / 2) _ (length keys) (λ h. omega arith) (λ h. omega arith)
+
+  abbrev leftovers-fit : Bool
+  leftovers-fit = leb (length bs) (length leftovers / 4)
+
+  leftovers-test : ltb (length leftovers) (length (lists .leftovers)) ≡ not leftovers-fit
+  leftovers-test = fours-test (length bs) _ (length leftovers) (leftovers-length p vs four bs)
+
+  -- the four decide
+  result-is : result ≡ cond fits (given lists) (refused 8)
   unfolding unless
-  by-room =
-      elim (by-lt (length counts / 4) (length bs)) [
-        | inl short ↦
-            inr (record {
-              told = rw (lt-leb (length bs) (length counts / 4) short);
-              is = rw (lt-ltb (length counts) (length (arrays .counts)) (omega (arith, counts-many)));
-            })
-        | inr c ↦
-            elim (by-lt (length heads) (length (itemsOf st))) [
-              | inl short ↦
-                  inr (record {
-                    told = rw (le-leb (length bs) (length counts / 4) c, lt-leb (length (itemsOf st)) (length heads) short);
-                    is =
-                        rw (
-                          le-ltb (length counts) (length (arrays .counts)) (omega (arith, counts-many)),
-                          lt-ltb (length heads) (length (arrays .heads)) (omega (arith, heads-many)),
-                        );
-                  })
-              | inr h ↦
-                  elim (by-lt (length keys / 2) (length (itemsOf st))) [
-                    | inl short ↦
-                        inr (record {
-                          told =
-                              rw (
-                                le-leb (length bs) (length counts / 4) c,
-                                le-leb (length (itemsOf st)) (length heads) h,
-                                lt-leb (length (itemsOf st)) (length keys / 2) short,
-                              );
-                          is =
-                              rw (
-                                le-ltb (length counts) (length (arrays .counts)) (omega (arith, counts-many)),
-                                le-ltb (length heads) (length (arrays .heads)) (omega (arith, heads-many)),
-                                lt-ltb (length keys) (length (arrays .keys)) (omega (arith, keys-many)),
-                              );
-                        })
-                    | inr k ↦
-                        inl (record {
-                          told =
-                              rw (
-                                le-leb (length bs) (length counts / 4) c,
-                                le-leb (length (itemsOf st)) (length heads) h,
-                                le-leb (length (itemsOf st)) (length keys / 2) k,
-                              );
-                          is =
-                              rw (
-                                le-ltb (length counts) (length (arrays .counts)) (omega (arith, counts-many)),
-                                le-ltb (length heads) (length (arrays .heads)) (omega (arith, heads-many)),
-                                le-ltb (length keys) (length (arrays .keys)) (omega (arith, keys-many)),
-                              );
-                          room =
-                              record {
-                                counts-fit = λ e. omega (arith, counts-many);
-                                heads-fit = λ e. omega (arith, heads-many);
-                                keys-fit = λ e. omega (arith, keys-many);
-                              };
-                        })
-                  ]
-            ]
-      ]
+  result-is =
+      rw (counts-test, heads-test, keys-test, leftovers-test)
+      (four-tests (given lists) (refused 8) counts-fit heads-fit keys-fit leftovers-fit)
 
-  -- the test says which
-  pub enough : roomFor size (length counts) (length heads) (length keys) ≡ true → Enough
-  enough e = ⊎-elim (λ w. w) (λ w. absurd (false≢true (sym (w .told) ∙ e))) by-room
-
-  short : roomFor size (length counts) (length heads) (length keys) ≡ false → Short
-  short e = ⊎-elim (λ w. absurd (false≢true (sym e ∙ w .told))) (λ w. w) by-room
+  -- all say so: there is room
+  pub has-room : fits ≡ true → StaffRoom true st (lists .leftovers) counts heads keys leftovers
+  has-room e =
+      let (c, e₁) = and-eq-true-iff counts-fit _ .0 e in
+      let (h, e₂) = and-eq-true-iff heads-fit _ .0 e₁ in
+      let (k, l) = and-eq-true-iff keys-fit _ .0 e₂ in
+      record {
+        counts-fit = λ _. ltb-false _ _ (counts-test ∙ ap not c);
+        heads-fit = λ _. ltb-false _ _ (heads-test ∙ ap not h);
+        keys-fit = λ _. ltb-false _ _ (keys-test ∙ ap not k);
+        leftovers-fit = λ _. ltb-false _ _ (leftovers-test ∙ ap not l);
+      }
 
   -- no room, and nothing written
-  pub left-out : roomFor size (length counts) (length heads) (length keys) ≡ false → Outputs size result counts heads keys counts heads keys (refused 8)
-  left-out e = let is = short e .is in record { answered = rw is; counts = rw is; heads = rw is; keys = rw is }
+  pub left-out : fits ≡ false → Outputs size result counts heads keys leftovers counts heads keys leftovers (refused 8)
+  left-out e =
+      let is : result ≡ refused 8 = (rw e at result-is) in
+      record { answered = rw is; counts = rw is; heads = rw is; keys = rw is; leftovers = rw is }
 
   -- the staff is written
-  pub written-out : {counts₁ heads₁ keys₁ : List ℕ} {r : Engraving} {s : StaffSize}
-      → roomFor size (length counts) (length heads) (length keys) ≡ true → s ≡ size
-      → StaffPut true bs st counts heads keys counts₁ heads₁ keys₁ r → Outputs size result counts heads keys counts₁ heads₁ keys₁ (given s)
+  pub written-out : {counts₁ heads₁ keys₁ leftovers₁ : List ℕ} {r : Engraving} {s : StaffSize} → fits ≡ true → s ≡ size
+      → StaffPut true bs st (lists .leftovers) counts heads keys leftovers counts₁ heads₁ keys₁ leftovers₁ r
+      → Outputs size result counts heads keys leftovers counts₁ heads₁ keys₁ leftovers₁ (given s)
   written-out e same put =
-      let is = enough e .is in
-      record { answered = rw is (ap given same); counts = rw is (put .counts .is); heads = rw is (put .heads .is); keys = rw is (put .keys .is) }
+      let is : result ≡ given lists = (rw e at result-is) in
+      record {
+        answered = rw is (ap given same);
+        counts = rw is (put .counts .is);
+        heads = rw is (put .heads .is);
+        keys = rw is (put .keys .is);
+        leftovers = rw is (put .leftovers .is);
+      }

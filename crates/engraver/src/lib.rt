@@ -37,6 +37,7 @@ pub fn measure_staff(
     let mut counts = [0u32; 1];
     let mut heads = [0u32; 1];
     let mut keys = [0u64; 1];
+    let mut leftovers = [0u32; 1];
     let s = staff::transcribe_track(
         false,
         &values,
@@ -50,6 +51,7 @@ pub fn measure_staff(
         &mut counts[..],
         &mut heads[..],
         &mut keys[..],
+        &mut leftovers[..],
     );
     Size {
         bars: s.bars,
@@ -57,9 +59,9 @@ pub fn measure_staff(
     }
 }
 
-// Whether outputs of these lengths have room: four counts a bar, a head and two words of keys an item.
-fn has_room(size: Size, counts: usize, heads: usize, keys: usize) -> bool
-    ensures { λ r. ⌜ r ≡ roomFor (sizeOf size) counts heads keys ⌝ }
+// Whether outputs of these lengths have room: four counts and four leftovers a bar, a head and two words of keys an item.
+fn has_room(size: Size, counts: usize, heads: usize, keys: usize, leftovers: usize) -> bool
+    ensures { λ r. ⌜ r ≡ roomFor (sizeOf size) counts heads keys leftovers ⌝ }
 {
     if counts / 4 < size.bars {
         return false;
@@ -67,7 +69,10 @@ fn has_room(size: Size, counts: usize, heads: usize, keys: usize) -> bool
     if heads < size.items {
         return false;
     }
-    size.items <= keys / 2
+    if keys / 2 < size.items {
+        return false;
+    }
+    size.bars <= leftovers / 4
 }
 
 // The staff of the voices in the work area, where the outputs have room for it; else they are left as they are.
@@ -83,13 +88,15 @@ pub fn write_staff(
     counts: &mut [u32],
     heads: &mut [u32],
     keys: &mut [u64],
+    leftovers: &mut [u32],
 ) -> Written
     requires { ⌜ CanWalk (now deltas) (now words) p end × (0 < p) × («max_bars» < 2 ^ 32) × VoicesHeld n (now work) lens ⌝ }
     ensures { λ r. ⌜ StaffWritten p (barsOf (now (deltas .entry)) (now (words .entry)) p end «max_bars») (voicesOf n (now (work .entry)) lens)
-        (now (counts .entry)) (now (heads .entry)) (now (keys .entry)) (now (counts .exit)) (now (heads .exit)) (now (keys .exit)) r ⌝ }
+        (now (counts .entry)) (now (heads .entry)) (now (keys .entry)) (now (leftovers .entry))
+        (now (counts .exit)) (now (heads .exit)) (now (keys .exit)) (now (leftovers .exit)) r ⌝ }
 {
     let size = measure_staff(p, deltas, words, end, max_bars, work, n, lens);
-    if has_room(size, counts.len(), heads.len(), keys.len()) {
+    if has_room(size, counts.len(), heads.len(), keys.len(), leftovers.len()) {
         let values = values::note_values(p);
         staff::transcribe_track(
             true,
@@ -104,6 +111,7 @@ pub fn write_staff(
             counts,
             heads,
             keys,
+            leftovers,
         );
         return Written { fits: true, size };
     }

@@ -1,18 +1,17 @@
 -- Ties taken off the ends of items that stand in an output: what is left are the chord's pieces.
-use Prim.Native.Nat.{ℕ, suc, zero, _+_, _-_, _/_, _%_, _≤_, _<_, _^_}
+use Prim.Native.Nat.{ℕ, suc, zero, _+_, _-_, _/_, _%_, _≤_, _<_, _^_, min, max}
 use mathlib.Core.Bool.{Bool, true, false, _&&_, false≢true}
 use mathlib.Core.List.{List, [], _∷_, _++_, map}
 use mathlib.Core.Logic.{inl, inr}
-use mathlib.Core.Path.{_≡_, refl, sym, ap, _∙_}
+use mathlib.Core.Path.{_≡_, refl, sym, ap, subst, _∙_}
 use native.Mathlib.Nat.{add-zero, zero-add, suc-add}
 use native.Mathlib.Omega.{arith}
 use borrow.Author.Tests.{ltb-true, lt-ltb, le-ltb}
 use lib.Dec.{ltb}
 use lib.ListN.{length, getD, set, take, drop, length-set, length-map, List·getD-append}
 use lib.Seq.{length-take-le, getD-set-same, getD-set-other, set-append-left, getD-append-add}
-use Rattle.rules.specs.Lists.{flag}
 use Rattle.rules.specs.Items.{headOf}
-use Rattle.rules.specs.Staff.{pieces, rests, restOf}
+use Rattle.rules.specs.Staff.{pieces, rests, restOf, chordIn, restsLeft, chordLeft}
 use Rattle.rules.specs.Values.{Value, splitSpan}
 use Rattle.rules.specs.Voices.{Chord}
 use Rattle.laws.proofs.Order.{by-eq}
@@ -20,8 +19,9 @@ use Rattle.chords.specs.Columns.{keysOf}
 use Rattle.chords.specs.declared.Keys.{Keys}
 use Rattle.chords.proofs.Stores.{keys-low, keys-high}
 use Rattle.values.specs.Table.{pieceWord, spanWords}
+use Rattle.values.specs.declared.Split.{Split}
 use Rattle.items.specs.Putting.{putAt, Put}
-use Rattle.items.specs.Writing.{Items, spanItems, SpanPut, untied, freed, BothTied}
+use Rattle.items.specs.Writing.{Items, Pushed, spanItems, SpanPut, untied, freed, BothTied}
 use Rattle.items.proofs.Putting.{put-length}
 use Rattle.items.proofs.Pieces.{tiedBits, rest-heads, rest-keys, pieces-length, pieces-keys, piece-heads}
 
@@ -71,13 +71,17 @@ module _ {some : Bool} {from to : ℕ} {l : List ℕ} (b : BothTied some from to
 pub rests-length : (p t : ℕ) → length (rests p t) ≡ spanItems p t
 rests-length p t = length-map (splitSpan p t .pieces) restOf
 
-pub span-rests : {w : Bool} {p t from : ℕ} {heads₀ keys₀ heads₁ keys₁ : List ℕ} {r : ℕ} → SpanPut w p t 256 0 0 from heads₀ keys₀ heads₁ keys₁ r
-    → Items w (rests p t) from heads₀ keys₀ heads₁ keys₁ r
+pub span-rests : {w : Bool} {p t : ℕ} {from : Split} {heads₀ keys₀ heads₁ keys₁ : List ℕ} {r : Split}
+    → SpanPut w p t 256 0 0 from heads₀ keys₀ heads₁ keys₁ r → Pushed w (rests p t) (restsLeft p t) from heads₀ keys₀ heads₁ keys₁ r
 span-rests {w} {p} {t} s =
     record {
-      next = rw (rests-length p t) (s .next);
-      heads = rw (rest-heads (splitSpan p t .pieces)) (s .heads);
-      keys = rw (rest-keys (splitSpan p t .pieces)) (s .keys);
+      items =
+          record {
+            next = rw (rests-length p t) (s .next);
+            heads = rw (rest-heads (splitSpan p t .pieces)) (s .heads);
+            keys = rw (rest-keys (splitSpan p t .pieces)) (s .keys);
+          };
+      left = s .left;
     }
 
 -- ---- a chord
@@ -89,9 +93,9 @@ word-least bits (v ∷ vs) zero h = omega arith
 word-least bits (v ∷ vs) (suc j) h = word-least bits vs j (omega arith)
 
 -- what `free_ends` asks
-pub span-tied : (w : Bool) {p t bits low high from : ℕ} {heads₀ keys₀ heads₁ keys₁ : List ℕ} {r : ℕ} → 96 ≤ bits
-    → (w ≡ true → from + spanItems p t ≤ length heads₀) → SpanPut w p t bits low high from heads₀ keys₀ heads₁ keys₁ r
-    → BothTied (w && ltb from r) from r heads₁
+pub span-tied : (w : Bool) {p t bits low high : ℕ} {from : Split} {heads₀ keys₀ heads₁ keys₁ : List ℕ} {r : Split} → 96 ≤ bits
+    → (w ≡ true → from .at + spanItems p t ≤ length heads₀) → SpanPut w p t bits low high from heads₀ keys₀ heads₁ keys₁ r
+    → BothTied (w && ltb (from .at) (r .at)) (from .at) (r .at) heads₁
 span-tied false some fits s =
     record {
       order = λ e. absurd (false≢true e);
@@ -102,19 +106,19 @@ span-tied false some fits s =
 span-tied true {p} {t} {bits} {low} {high} {from} {heads₀} {keys₀} {heads₁} {keys₁} {r} some fits s =
     let ws : List ℕ = spanWords p t bits in
     let many : length ws ≡ spanItems p t = length-map (splitSpan p t .pieces) (pieceWord bits) in
-    let room : from + length ws ≤ length heads₀ = omega (arith, fits refl) in
-    let word : (j : ℕ) → j < spanItems p t → 96 ≤ getD heads₁ (from + j) 0 =
+    let room : from .at + length ws ≤ length heads₀ = omega (arith, fits refl) in
+    let word : (j : ℕ) → j < spanItems p t → 96 ≤ getD heads₁ (from .at + j) 0 =
     (λ j h.
-    rw (s .heads .is, put-get ws from heads₀ room j (omega arith))
+    rw (s .heads .is, put-get ws (from .at) heads₀ room j (omega arith))
     (let l = word-least bits (splitSpan p t .pieces) j h in omega arith)) in
     record {
-      order = λ e. ltb-true from r e;
+      order = λ e. ltb-true (from .at) (r .at) e;
       inside = λ e. omega (arith, s .next, put-length true (λ _. room) (s .heads));
-      first = λ e. rw add-zero at (word 0 (omega (arith, s .next, ltb-true from r e)));
+      first = λ e. rw add-zero at (word 0 (omega (arith, s .next, ltb-true (from .at) (r .at) e)));
       last =
           λ e.
-          let place : r - 1 ≡ from + (spanItems p t - 1) = omega (arith, s .next, ltb-true from r e) in
-          rw place (word (spanItems p t - 1) (omega (arith, s .next, ltb-true from r e)));
+          let place : r .at - 1 ≡ from .at + (spanItems p t - 1) = omega (arith, s .next, ltb-true (from .at) (r .at) e) in
+          rw place (word (spanItems p t - 1) (omega (arith, s .next, ltb-true (from .at) (r .at) e)));
     }
 
 -- the words of a span that is tied on both sides, with its ends freed, are those of a chord's pieces
@@ -134,23 +138,40 @@ freed-pieces c isIn isOut (v ∷ vs) from l h =
     (rw (untied-length 32 0 isIn ws) (omega arith))
     ∙ ap (λ (ys : List ℕ). putAt ys from l) (piece-heads c isIn isOut v vs))
 
-pub span-pieces : (c : Chord) (k : Keys) (isIn isOut : Bool) {w : Bool} {p t from : ℕ} {heads₀ keys₀ heads₁ keys₁ heads₂ : List ℕ} {r : ℕ}
-    → k .low < 2 ^ 64 → c .keys ≡ keysOf k → (w ≡ true → from + spanItems p t ≤ length heads₀)
-    → SpanPut w p t (tiedBits (c .unpitched)) (k .low) (k .high) from heads₀ keys₀ heads₁ keys₁ r → heads₂ ≡ freed w from r isIn isOut heads₁
-    → Items w (pieces c isIn isOut (splitSpan p t .pieces)) from heads₀ keys₀ heads₂ keys₁ r
+span-pieces : (c : Chord) (k : Keys) (isIn isOut : Bool) {w : Bool} {p t : ℕ} {from : Split} {heads₀ keys₀ heads₁ keys₁ heads₂ : List ℕ} {r : Split}
+    → k .low < 2 ^ 64 → c .keys ≡ keysOf k → (w ≡ true → from .at + spanItems p t ≤ length heads₀)
+    → SpanPut w p t (tiedBits (c .unpitched)) (k .low) (k .high) from heads₀ keys₀ heads₁ keys₁ r → heads₂ ≡ freed w (from .at) (r .at) isIn isOut heads₁
+    → Pushed w (pieces c isIn isOut (splitSpan p t .pieces)) (splitSpan p t .left) from heads₀ keys₀ heads₂ keys₁ r
 span-pieces c k isIn isOut {w} {p} {t} {from} {heads₀} {keys₀} {heads₁} {keys₁} {heads₂} {r} small keys fits s e =
     let vs : List Value = splitSpan p t .pieces in
     let lows : c .keys % 2 ^ 64 ≡ k .low = rw keys (keys-low k small) in
     let highs : c .keys / 2 ^ 64 ≡ k .high = rw keys (keys-high k small) in
     record {
-      next = rw (pieces-length c isIn isOut vs) (s .next);
-      heads = freed-put w fits s e;
-      keys = rw (pieces-keys c isIn isOut vs, lows, highs) (s .keys);
+      items =
+          record {
+            next = rw (pieces-length c isIn isOut vs) (s .next);
+            heads = freed-put w fits s e;
+            keys = rw (pieces-keys c isIn isOut vs, lows, highs) (s .keys);
+          };
+      left = s .left;
     }
   where
-    freed-put : (w : Bool) → (w ≡ true → from + spanItems p t ≤ length heads₀)
-        → SpanPut w p t (tiedBits (c .unpitched)) (k .low) (k .high) from heads₀ keys₀ heads₁ keys₁ r → heads₂ ≡ freed w from r isIn isOut heads₁
-        → Put w (map headOf (pieces c isIn isOut (splitSpan p t .pieces))) from heads₀ heads₂
+    freed-put : (w : Bool) → (w ≡ true → from .at + spanItems p t ≤ length heads₀)
+        → SpanPut w p t (tiedBits (c .unpitched)) (k .low) (k .high) from heads₀ keys₀ heads₁ keys₁ r
+        → heads₂ ≡ freed w (from .at) (r .at) isIn isOut heads₁
+        → Put w (map headOf (pieces c isIn isOut (splitSpan p t .pieces))) (from .at) heads₀ heads₂
     freed-put true fits s e =
-        record { is = e ∙ rw (s .next, s .heads .is) (freed-pieces c isIn isOut (splitSpan p t .pieces) from heads₀ (fits refl)) }
+        record { is = e ∙ rw (s .next, s .heads .is) (freed-pieces c isIn isOut (splitSpan p t .pieces) (from .at) heads₀ (fits refl)) }
     freed-put false fits s e = record { is = e ∙ s .heads .is }
+
+-- a chord in the bar from b to e: a span of as many ticks as it sounds there
+pub span-chord : (c : Chord) (k : Keys) (b e t : ℕ) {w : Bool} {p : ℕ} {from : Split} {heads₀ keys₀ heads₁ keys₁ heads₂ : List ℕ} {r : Split}
+    → t ≡ min e (c .end) - max b (c .start) → k .low < 2 ^ 64 → c .keys ≡ keysOf k → (w ≡ true → from .at + spanItems p t ≤ length heads₀)
+    → SpanPut w p t (tiedBits (c .unpitched)) (k .low) (k .high) from heads₀ keys₀ heads₁ keys₁ r
+    → heads₂ ≡ freed w (from .at) (r .at) (ltb (c .start) b) (ltb e (c .end)) heads₁
+    → Pushed w (chordIn p b e c) (chordLeft p b e c) from heads₀ keys₀ heads₂ keys₁ r
+span-chord c k b e t {w} {p} {from} {heads₀} {keys₀} {heads₁} {keys₁} {heads₂} {r} same small keys fits s h =
+    subst
+    (λ (u : ℕ). Pushed w (pieces c (ltb (c .start) b) (ltb e (c .end)) (splitSpan p u .pieces)) (splitSpan p u .left) from heads₀ keys₀ heads₂ keys₁ r)
+    same
+    (span-pieces c k (ltb (c .start) b) (ltb e (c .end)) small keys fits s h)

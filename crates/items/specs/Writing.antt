@@ -1,5 +1,5 @@
 -- What the functions that write items ask and promise. Where w is false they count the items and write none.
-use Prim.Native.Nat.{ℕ, _+_, _-_, _*_, _<_, _≤_, _^_}
+use Prim.Native.Nat.{ℕ, _+_, _-_, _*_, _<_, _≤_, _^_, min, max}
 use mathlib.Core.Bool.{Bool, true, cond, _&&_}
 use mathlib.Core.List.{List, [], _∷_, map, flatMap, flatten}
 use mathlib.Core.Path.{_≡_}
@@ -9,6 +9,7 @@ use Rattle.rules.specs.Values.{splitSpan}
 use Rattle.rules.specs.Items.{Item, headOf, lowKeys, highKeys}
 use Rattle.rules.specs.Voices.{Chord}
 use Rattle.values.specs.Table.{tableOf, spanWords}
+use Rattle.values.specs.declared.Split.{Split}
 use Rattle.items.specs.declared.Measure.{Measure}
 use Rattle.items.specs.Putting.{Put}
 
@@ -37,6 +38,15 @@ pub record Items (w : Bool) (is : List Item) (from : ℕ) (heads₀ keys₀ head
   pub heads : Put w (map headOf is) from heads₀ heads₁
   pub keys : Put w (flatMap keyWords is) (2 * from) keys₀ keys₁
 
+-- the items stand in the outputs, and k ticks more are left than were before
+pub record Pushed (w : Bool) (is : List Item) (k : ℕ) (from : Split) (heads₀ keys₀ heads₁ keys₁ : List ℕ) (r : Split) : Type 0 where
+  pub items : Items w is (from .at) heads₀ keys₀ heads₁ keys₁ (r .at)
+  pub left : r .left ≡ from .left + k
+
+-- a place, and no ticks left so far
+abbrev pub startAt : ℕ → Split
+startAt at = record { at = at; left = 0 }
+
 -- ---- spans
 
 -- the two words of m items of the same keys
@@ -48,10 +58,11 @@ abbrev pub spanItems : ℕ → ℕ → ℕ
 spanItems p t = length (splitSpan p t .pieces)
 
 -- the values of t ticks stand in the outputs, all with the same bits and keys
-pub record SpanPut (w : Bool) (p t bits low high from : ℕ) (heads₀ keys₀ heads₁ keys₁ : List ℕ) (r : ℕ) : Type 0 where
-  pub next : r ≡ from + spanItems p t
-  pub heads : Put w (spanWords p t bits) from heads₀ heads₁
-  pub keys : Put w (pairs low high (spanItems p t)) (2 * from) keys₀ keys₁
+pub record SpanPut (w : Bool) (p t bits low high : ℕ) (from : Split) (heads₀ keys₀ heads₁ keys₁ : List ℕ) (r : Split) : Type 0 where
+  pub next : r .at ≡ from .at + spanItems p t
+  pub heads : Put w (spanWords p t bits) (from .at) heads₀ heads₁
+  pub keys : Put w (pairs low high (spanItems p t)) (2 * from .at) keys₀ keys₁
+  pub left : r .left ≡ from .left + splitSpan p t .left
 
 -- ---- ties
 
@@ -76,3 +87,7 @@ pub record Sounding (bar : Measure) (c : Chord) : Type 0 where
   pub long : c .start < c .end
   pub early : c .start < bar .end
   pub late : bar .start < c .end
+
+-- how long it sounds there
+abbrev pub chordTicks : Measure → Chord → ℕ
+chordTicks bar c = min (bar .end) (c .end) - max (bar .start) (c .start)

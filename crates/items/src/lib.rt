@@ -1,17 +1,18 @@
 // Section 7, items: rests and the pieces of chords in a bar, written to lent outputs from a place on. Each function is told whether to
-// write: where it is not, the items are counted, and no output changes.
+// write: where it is not, the items are counted, and no output changes. Each adds the ticks that no item took to those it is given.
 ghost use Prim.Native.Nat.{_+_, _-_, _*_, _<_, _≤_, _^_, min};
 ghost use mathlib.Core.Bool.{false, _&&_};
 ghost use mathlib.Core.Path.{_≡_};
 ghost use lib.Dec.{ltb};
 ghost use lib.ListN.{length, getD};
 ghost use Rattle.rules.specs.Lists.{flag};
-ghost use Rattle.rules.specs.Staff.{rests, chordIn};
+ghost use Rattle.rules.specs.Staff.{rests, chordIn, restsLeft, chordLeft};
 ghost use Rattle.chords.specs.Columns.{chordOf};
 ghost use Rattle.items.specs.Putting.{putAt};
-ghost use Rattle.items.specs.Writing.{quarter, IsTable, Room, Items, pairs, spanItems, SpanPut, untied, freed, BothTied, Sounding};
+ghost use Rattle.items.specs.Writing.{quarter, IsTable, Room, Pushed, chordTicks, pairs, spanItems, SpanPut, untied, freed, BothTied, Sounding};
 use chords::Keys;
 use chords::VoiceChord;
+use values::Split;
 
 // A bar's start and end.
 pub struct Measure {
@@ -55,18 +56,26 @@ fn push_span(
     chord: Keys,
     heads: &mut [u32],
     keys: &mut [u64],
-    from: usize,
-) -> usize
-    requires { ⌜ IsTable (now values) × (bits < 2 ^ 16) × Room write (spanItems (quarter (now values)) ticks) from (now heads) (now keys) ⌝ }
+    from: Split,
+) -> Split
+    requires { ⌜ IsTable (now values) × (bits < 2 ^ 16) × (from .left + ticks < 2 ^ 64)
+        × Room write (spanItems (quarter (now values)) ticks) (from .at) (now heads) (now keys) ⌝ }
     ensures { λ r. ⌜ SpanPut write (quarter (now (values .entry))) ticks bits (chord .low) (chord .high) from
         (now (heads .entry)) (now (keys .entry)) (now (heads .exit)) (now (keys .exit)) r ⌝ }
 {
     if write {
-        let to = values::split_span(values, ticks, heads, from, bits);
-        push_keys(keys, from, to, chord.low, chord.high);
-        return to;
+        let split = values::split_span(values, ticks, heads, from.at, bits);
+        push_keys(keys, from.at, split.at, chord.low, chord.high);
+        return Split {
+            at: split.at,
+            left: from.left + split.left,
+        };
     }
-    from + values::count_pieces(values, ticks) as usize
+    let count = values::count_pieces(values, ticks);
+    Split {
+        at: from.at + count.pieces as usize,
+        left: from.left + count.left,
+    }
 }
 
 // ---- rests
@@ -78,10 +87,11 @@ pub fn push_rests(
     ticks: u64,
     heads: &mut [u32],
     keys: &mut [u64],
-    from: usize,
-) -> usize
-    requires { ⌜ IsTable (now values) × Room write (length (rests (quarter (now values)) ticks)) from (now heads) (now keys) ⌝ }
-    ensures { λ r. ⌜ Items write (rests (quarter (now (values .entry))) ticks) from
+    from: Split,
+) -> Split
+    requires { ⌜ IsTable (now values) × (from .left + ticks < 2 ^ 64)
+        × Room write (length (rests (quarter (now values)) ticks)) (from .at) (now heads) (now keys) ⌝ }
+    ensures { λ r. ⌜ Pushed write (rests (quarter (now (values .entry))) ticks) (restsLeft (quarter (now (values .entry))) ticks) from
         (now (heads .entry)) (now (keys .entry)) (now (heads .exit)) (now (keys .exit)) r ⌝ }
 {
     let no_keys = Keys { low: 0, high: 0 };
@@ -121,17 +131,25 @@ pub fn push_chord(
     c: VoiceChord,
     heads: &mut [u32],
     keys: &mut [u64],
-    from: usize,
-) -> usize
-    requires { ⌜ IsTable (now values) × Sounding bar (chordOf c)
-        × Room write (length (chordIn (quarter (now values)) (bar .start) (bar .end) (chordOf c))) from (now heads) (now keys) ⌝ }
-    ensures { λ r. ⌜ Items write (chordIn (quarter (now (values .entry))) (bar .start) (bar .end) (chordOf c)) from
+    from: Split,
+) -> Split
+    requires { ⌜ IsTable (now values) × Sounding bar (chordOf c) × (from .left + chordTicks bar (chordOf c) < 2 ^ 64)
+        × Room write (length (chordIn (quarter (now values)) (bar .start) (bar .end) (chordOf c))) (from .at) (now heads) (now keys) ⌝ }
+    ensures { λ r. ⌜ Pushed write (chordIn (quarter (now (values .entry))) (bar .start) (bar .end) (chordOf c))
+        (chordLeft (quarter (now (values .entry))) (bar .start) (bar .end) (chordOf c)) from
         (now (heads .entry)) (now (keys .entry)) (now (heads .exit)) (now (keys .exit)) r ⌝ }
 {
     let ticks = smaller(bar.end, c.end) - basics::larger(bar.start, c.start);
     let bits = 96 + flag(c.unpitched) * 128;
     let chord = c.keys;
     let to = push_span(write, values, ticks, bits, chord, heads, keys, from);
-    free_ends(write, heads, from, to, c.start < bar.start, bar.end < c.end);
+    free_ends(
+        write,
+        heads,
+        from.at,
+        to.at,
+        c.start < bar.start,
+        bar.end < c.end,
+    );
     to
 }

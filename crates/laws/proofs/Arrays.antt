@@ -1,19 +1,26 @@
 -- The round trip: a staff's three arrays are well shaped, and reading them gives the staff back.
-use Prim.Native.Nat.{ℕ, _+_, _*_, _%_, _^_, _≤_, _<_}
+use Prim.Native.Nat.{ℕ, _+_, _-_, _*_, _%_, _^_, _≤_, _<_, min, max}
 use mathlib.Core.Bool.{Bool, true, false}
 use mathlib.Core.List.{List, [], _∷_, _++_, map, flatMap, flatten}
+use mathlib.Core.Logic.{inl, inr}
 use mathlib.Core.Path.{_≡_, refl, ap₂}
-use lib.Dec.{eqb}
+use lib.Dec.{eqb, ltb}
 use lib.ListN.{length, length-map}
 use lib.Seq.{take-append-seam, drop-append-seam}
 use native.Mathlib.Omega.{arith}
-use Rattle.rules.specs.Lists.{bit, flag, All}
-use Rattle.rules.specs.Bars.{Bar}
+use Rattle.rules.specs.Lists.{bit, flag, All, keep}
+use Rattle.rules.specs.Bars.{Bar, barEnd}
 use Rattle.rules.specs.Items.{Item, Staff, headOf, headLimit, lowKeys, highKeys, itemOf, itemsOf, arraysOf, readItems, cutBy, byFours, readStaff}
 use Rattle.rules.specs.RawNotes.{RawNote}
+use Rattle.rules.specs.Staff.{restOf, rests, pieces, chordIn, soundsIn, isWritten, filled, voiceIn, voicesIn, staffOf}
+use Rattle.rules.specs.Values.{Value, splitSpan}
+use Rattle.rules.specs.Voices.{Chord}
 use Rattle.rules.specs.ProofReader.{Values, Right, Shaped, WellFormed}
 use Rattle.rules.specs.ProofReaderTests.{verdictOn}
-use Rattle.laws.proofs.Lists.{All-imp, All-map, All-flatten, by-four, length-flatten, length-flatten-each}
+use Rattle.laws.specs.Ladder.{StaffPiece}
+use Rattle.laws.proofs.Lists.{All-imp, All-append, All-map, All-all, All-flatten, by-four, length-flatten, length-flatten-each}
+use Rattle.laws.proofs.Order.{by-bool}
+use Rattle.laws.proofs.Splits.{split-staff}
 use Rattle.laws.proofs.Tests.{flag-small}
 use Rattle.laws.proofs.Verdict.{says-verdict-on, right-bars}
 
@@ -94,6 +101,12 @@ module _ {A : Type 0} where
   fours-flatten [] h = refl
   fours-flatten (xs ∷ xss) h = rw (four xs (flatten xss) (h .0), fours-flatten xss (h .1))
 
+-- a list cut by the counts of its voices
+pub read-voices : (st : Staff) → All (All (All Encodable)) st
+    → cutBy (arraysOf st .counts) (readItems (arraysOf st .heads) (arraysOf st .keys)) ≡ flatten st
+read-voices st small =
+    rw (read-items (itemsOf st) (All-flatten Encodable (flatten st) (All-flatten (All Encodable) st small))) (cut-flatten (flatten st))
+
 -- ---- the staff
 
 pair-words : (is : List Item) → length (flatMap (λ i. lowKeys i ∷ highKeys i ∷ []) is) ≡ 2 * length is
@@ -116,6 +129,45 @@ module _ (st : Staff) (fours : All (λ bar. length bar ≡ 4) st) (small : All (
         keys = rw (← length-flatten (flatten st)) (pair-words (itemsOf st));
         bits = All-map (λ h. h < headLimit) headOf (λ i e. head-small i (e .0) (e .1)) (itemsOf st) small-items;
       }
+
+-- ---- engraved staffs, at any division
+
+module _ (p : ℕ) where
+  pieces-encodable : (c : Chord) (isIn isOut : Bool) (vs : List Value) → All (StaffPiece p) vs → All Encodable (pieces c isIn isOut vs)
+  unfolding pieces
+  pieces-encodable c isIn isOut [] h = tt
+  pieces-encodable c isIn isOut (v ∷ vs) h = ((omega (arith, h .0 .code), h .0 .dots), pieces-encodable c true isOut vs (h .1))
+
+  rests-encodable : (t : ℕ) → All Encodable (rests p t)
+  rests-encodable t = All-map Encodable restOf (λ v h. (omega (arith, h .code), h .dots)) (splitSpan p t .pieces) (split-staff p t)
+
+  filled-encodable : (b e t : ℕ) (cs : List Chord) → All Encodable (filled p b e t cs)
+  unfolding filled
+  filled-encodable b e t [] = rests-encodable (e - t)
+  filled-encodable b e t (c ∷ cs) =
+      All-append Encodable (rests p (max b (c .start) - t)) _ (rests-encodable (max b (c .start) - t))
+      (All-append Encodable (chordIn p b e c) _
+      (pieces-encodable c (ltb (c .start) b) (ltb e (c .end)) (splitSpan p (min e (c .end) - max b (c .start)) .pieces) (split-staff p _))
+      (filled-encodable b e (min e (c .end)) cs))
+
+  voice-encodable : (isFirst : Bool) (b : Bar) (v : List Chord) → All Encodable (voiceIn p isFirst b v)
+  unfolding voiceIn
+  voice-encodable isFirst b v =
+      elim (by-bool (isWritten isFirst b v)) [
+        | inl t ↦ rw t (filled-encodable (b .start) (barEnd b) (b .start) (keep (soundsIn (b .start) (barEnd b)) v))
+        | inr t ↦ rw t tt
+      ]
+
+  voices-encodable : (vs : List (List Chord)) (b : Bar) → All (All Encodable) (voicesIn p vs b)
+  voices-encodable [] b = tt
+  voices-encodable (v ∷ vs) b = (
+    voice-encodable true b v,
+    All-map {P = λ (w : List Chord). Unit {0}} (All Encodable) (voiceIn p false b) (λ w _. voice-encodable false b w) vs (All-all (λ w. tt) vs),
+  )
+
+  pub staff-encodable : (vs : List (List Chord)) (bs : List Bar) → All (All (All Encodable)) (staffOf p vs bs)
+  staff-encodable vs bs =
+      All-map {P = λ (b : Bar). Unit {0}} (All (All Encodable)) (voicesIn p vs) (λ b _. voices-encodable vs b) bs (All-all (λ b. tt) bs)
 
 -- ---- right staffs
 

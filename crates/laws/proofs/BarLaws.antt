@@ -1,20 +1,23 @@
 -- Bars: section 4's bars follow one another, and every bar lies before the last bar's end.
-use Prim.Native.Nat.{ℕ, zero, suc, _+_, _≤_, _<_}
+use Prim.Native.Nat.{ℕ, zero, suc, _+_, _*_, _/_, _≤_, _<_, _^_, max}
 use mathlib.Core.Bool.{Bool, false}
 use mathlib.Core.List.{List, [], _∷_, map}
 use mathlib.Core.Logic.{_⊎_, inl, inr}
 use mathlib.Core.Path.{_≡_, refl, ap}
+use lib.Dec.{eqb, leb}
 use lib.ListN.{length, length-map}
+use native.Mathlib.Nat.{mod-lt, mul-le-mul-left, div-le-self}
 use native.Mathlib.Omega.{arith}
 use borrow.Author.Tests.{le-leb, lt-leb}
-use Rattle.rules.specs.Lists.{lastOr, sum, All}
+use Rattle.rules.specs.Lists.{firstOr, lastOr, keep, sum, All}
 use Rattle.rules.specs.Piece.{Piece, Event}
-use Rattle.rules.specs.Changes.{Change, Meter, Key, tempoChanges, keyChanges}
-use Rattle.rules.specs.Bars.{Bar, barLength, barEnd, barsFrom, endOfPiece, barsUpTo, lastBarEnd, printed, printedFrom, marksFrom, startsOf, marksIn}
+use Rattle.rules.specs.Changes.{Change, Meter, Key, meterChanges, firstMeter, commonTime, tempoChanges, keyChanges}
+use Rattle.rules.specs.Bars.{Bar, barLength, barEnd, meterAt, barsFrom, endOfPiece, barsUpTo, lastBarEnd, printed, printedFrom, marksFrom, startsOf, marksIn}
 use Rattle.rules.specs.Voices.{Chord}
-use Rattle.rules.specs.Staff.{voiceIn, voicesIn}
+use Rattle.rules.specs.Staff.{voiceIn, voicesIn, voiceLeft, voicesLeft}
 use Rattle.laws.specs.Claims.{BarsStop}
 use Rattle.laws.specs.Lines.{Consecutive}
+use Rattle.laws.proofs.Lists.{All-map, All-keep, All-all}
 use Rattle.laws.proofs.Order.{by-lt}
 
 -- ---- the bars of a meter
@@ -48,6 +51,56 @@ bars-consecutive (suc n) p m end t =
     elim (by-lt (t + barLength p (m t)) end) [
       | inl h ↦ rw (bars-more n p m end t h) (refl, omega arith, bars-consecutive n p m end (t + barLength p (m t)))
       | inr h ↦ rw (bars-last n p m end t h) (refl, omega arith, tt)
+    ]
+
+-- ---- how long
+
+abbrev SmallMeter : Meter → Type 0
+SmallMeter m = m .upper < 256
+
+first-small : (m : Meter) (ms : List Meter) → SmallMeter m → All SmallMeter ms → SmallMeter (firstOr m ms)
+first-small m [] h hs = h
+first-small m (x ∷ xs) h hs = hs .0
+
+last-small : (m : Meter) (ms : List Meter) → SmallMeter m → All SmallMeter ms → SmallMeter (lastOr m ms)
+last-small m [] h hs = h
+last-small m (x ∷ xs) h hs = last-small x xs (hs .0) (hs .1)
+
+abbrev SmallChange : Change Meter → Type 0
+SmallChange c = SmallMeter (c .to)
+
+kept-small : (f : Change Meter → Bool) (cs : List (Change Meter)) → All SmallChange cs → All SmallMeter (map (λ (c : Change Meter). c .to) (keep f cs))
+kept-small f cs h = All-map SmallMeter (λ (c : Change Meter). c .to) (λ c k. k .0) (keep f cs) (All-keep SmallChange f cs h)
+
+-- upper figures are bytes
+changes-small : (es : List Event) → All SmallChange (meterChanges es)
+changes-small es =
+    All-map {P = λ (e : Event). Unit {0}} SmallChange _ (λ e _. mod-lt (e .word / 2 ^ 16) (omega arith)) (keep _ es) (All-all (λ e. tt) (keep _ es))
+
+pub meter-small : (es : List Event) (t : ℕ) → meterAt (meterChanges es) (firstMeter es) t .upper < 256
+meter-small es t =
+    let cs : List (Change Meter) = meterChanges es in
+    let all : All SmallChange cs = changes-small es in
+    let zero? : Change Meter → Bool = λ c. eqb (c .tick) 0 in
+    let past? : Change Meter → Bool = λ c. leb (c .tick) t in
+    last-small (firstMeter es) (map (λ (c : Change Meter). c .to) (keep past? cs))
+    (first-small commonTime (map (λ (c : Change Meter). c .to) (keep zero? cs)) (omega arith) (kept-small zero? cs all))
+    (kept-small past? cs all)
+
+-- so that a bar is short
+pub bar-short : (p : ℕ) (m : Meter) → m .upper < 256 → barLength p m ≤ max 1 (1020 * p)
+bar-short p m k =
+    let l : 4 * p * m .upper ≤ 4 * p * 255 = mul-le-mul-left (4 * p) (omega arith) in
+    omega (arith, div-le-self (4 * p * m .upper) (m .lower))
+
+-- bars of meters that make short bars
+pub bars-few-long : (most n p : ℕ) (m : ℕ → Meter) → ((t : ℕ) → barLength p (m t) ≤ most) → (end t : ℕ)
+    → All (λ (b : Bar). b .len ≤ most) (barsFrom n p m end t)
+bars-few-long most zero p m short end t = rw (bars-none p m end t) tt
+bars-few-long most (suc n) p m short end t =
+    elim (by-lt (t + barLength p (m t)) end) [
+      | inl h ↦ rw (bars-more n p m end t h) (short t, bars-few-long most n p m short end (t + barLength p (m t)))
+      | inr h ↦ rw (bars-last n p m end t h) (short t, tt)
     ]
 
 -- ---- where the bars stop
@@ -127,6 +180,11 @@ last-bar-end t (b ∷ bs) h =
 pub bar-length : (p : ℕ) (vs : List (List Chord)) (b : Bar) → length (voicesIn p vs b) ≡ length vs
 bar-length p [] b = refl
 bar-length p (v ∷ vs) b = ap suc (length-map vs (voiceIn p false b))
+
+-- and as many leftovers
+pub bar-left-length : (p : ℕ) (vs : List (List Chord)) (b : Bar) → length (voicesLeft p vs b) ≡ length vs
+bar-left-length p [] b = refl
+bar-left-length p (v ∷ vs) b = ap suc (length-map vs (voiceLeft p false b))
 
 -- ---- what is given of them
 

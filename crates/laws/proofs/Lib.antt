@@ -13,6 +13,7 @@ pub mod Grid
 pub mod HashOrder
 pub mod KeyBits
 pub mod Largest
+pub mod Leftovers
 pub mod Lists
 pub mod Loops
 pub mod NoteRanges
@@ -25,6 +26,7 @@ pub mod Places
 pub mod Reflection
 pub mod Refusals
 pub mod Sort
+pub mod Sounding
 pub mod Splits
 pub mod Standards
 pub mod Swaps

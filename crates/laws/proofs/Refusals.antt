@@ -8,13 +8,13 @@ use native.Mathlib.Nat.{pos-of-ne-zero}
 use native.Mathlib.Omega.{arith}
 use borrow.Author.Tests.{ltb-false, leb-true, eqb-true, eqb-false, not-false}
 use lib.ListN.{length, take, drop, length-take, length-drop}
-use Rattle.rules.specs.Lists.{All, sum}
-use Rattle.rules.specs.Piece.{Piece, Event, largestSize, division, trackCount, eventCounts, sizesAgree, wellFormed, timecode, timed, cutTracks, tracks}
+use Rattle.rules.specs.Lists.{All, sum, bit}
+use Rattle.rules.specs.Piece.{Piece, Event, largestSize, division, trackCount, eventCounts, sizesAgree, wellFormed, timecode, ticksPerQuarter, timed, cutTracks, tracks}
 use Rattle.rules.specs.Refusals.{Result, refused, given, answers, Refusal, unless, firstNumber, eventRefusals, pieceRefusals, noteRefusals, mostEvents}
-use Rattle.rules.specs.Refusals.{largestDelta}
+use Rattle.rules.specs.Refusals.{partRefusals, largestDelta}
 use Rattle.laws.specs.Admitted.{Passes, Admitted, TicksBelow, TicksStayBelow, TicksPerQuarterPositive}
 use Rattle.laws.proofs.Order.{by-bool}
-use Rattle.laws.proofs.Lists.{All-append, All-take, All-drop}
+use Rattle.laws.proofs.Lists.{All-append, All-left, All-take, All-drop}
 
 module _ {A : Type 0} where
   pub passes-given : (rs : List Refusal) (a : A) → Passes rs → unless rs a ≡ given a
@@ -178,8 +178,20 @@ admitted x h =
       words = events .1;
     }
 
+-- a part that passes is one of an admitted piece
+pub admitted-part : (x : Piece) (k : ℕ) → Passes (partRefusals x k) → Admitted x
+admitted-part x k h = admitted x (All-left _ (pieceRefusals x) _ (All-left _ (noteRefusals x) _ h))
+
 pub ticks-per-quarter-positive : TicksPerQuarterPositive
 ticks-per-quarter-positive x h = elim (by-bool (timecode x)) [ inl t ↦ rw t (omega arith) | inr t ↦ rw t (h .divided) ]
+
+-- bit 15 is timecode's, so that a quarter has at most 32,767 ticks
+pub quarter-short : (x : Piece) → Admitted x → ticksPerQuarter x ≤ 32767
+quarter-short x h =
+    elim (by-bool (timecode x)) [
+      | inl t ↦ rw t (omega arith)
+      | inr t ↦ rw t (let low = eqb-false (bit 15 (division x)) 1 t in omega (arith, sizes-agree x (h .sizes) .division))
+    ]
 
 -- ---- ticks
 

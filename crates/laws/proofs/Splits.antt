@@ -49,7 +49,7 @@ left-zero [] = refl
 left-zero (v ∷ vs) = rw zero-mod (left-zero vs)
 
 -- a span by division, both parts; and by its first value that fits
-abbrev divided : List Value → ℕ → Split
+abbrev pub divided : List Value → ℕ → Split
 divided vs t = record { pieces = split vs t; left = left vs t }
 
 abbrev first : List Value → ℕ → Option Value
@@ -59,7 +59,7 @@ abbrev ahead : List Value → ℕ → Option Value → Split
 ahead vs t none = record { pieces = []; left = t }
 ahead vs t (some v) = record { pieces = v ∷ split vs (t - v .ticks); left = left vs (t - v .ticks) }
 
-divided-over : (v : Value) (vs : List Value) (t : ℕ) → t < v .ticks → divided (v ∷ vs) t ≡ divided vs t
+pub divided-over : (v : Value) (vs : List Value) (t : ℕ) → t < v .ticks → divided (v ∷ vs) t ≡ divided vs t
 divided-over v vs t h = λ i. record { pieces = split-over v vs t h i; left = left-over v vs t h i }
 
 ahead-over : (v : Value) (vs : List Value) (t : ℕ) → t < v .ticks → (o : Option Value) → ahead vs t o ≡ ahead (v ∷ vs) t o
@@ -100,13 +100,10 @@ module _ (p : ℕ) (some-ticks : 0 < p) where
           rw (e, splitIn)
           (ap (λ (s : Split). record { pieces = v ∷ s .pieces; left = s .left }) (more (t - v .ticks) (omega (arith, first-long t v e))))
 
-  span-divided : (t : ℕ) → splitSpan p t ≡ divided (values p) t
+  pub span-divided : (t : ℕ) → splitSpan p t ≡ divided (values p) t
   span-divided t = splitIn-divided t t (le-refl t)
 
-pub split-literal : (p t : ℕ) → 0 < p → splitSpan p t .pieces ≡ split (values p) t
-split-literal p t h = ap (λ (s : Split). s .pieces) (span-divided p h t)
-
-pub left-literal : (p t : ℕ) → 0 < p → splitSpan p t .left ≡ left (values p) t
+left-literal : (p t : ℕ) → 0 < p → splitSpan p t .left ≡ left (values p) t
 left-literal p t h = ap (λ (s : Split). s .left) (span-divided p h t)
 
 pub split-step : (p t : ℕ) → 0 < p → splitSpan p t ≡ taken p t (longest p t)

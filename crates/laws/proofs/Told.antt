@@ -4,10 +4,9 @@ use mathlib.Core.Bool.{Bool}
 use mathlib.Core.List.{List}
 use mathlib.Core.Path.{_≡_, ap, _∙_}
 use Rattle.rules.specs.Automation.{AutomationLists}
-use Rattle.rules.specs.Calls.{PieceSize, ReadCalled, BarLists, BarsCalled, StaffSize, StaffSizeCalled, EngraveCalled}
+use Rattle.rules.specs.Calls.{PieceSize, ReadCalled, BarLists, BarsCalled, StaffSize, StaffSizeCalled, EngravedLists, EngraveCalled}
 use Rattle.rules.specs.Calls.{AutomationCounts, AutomationCalled, DiagnosticsCalled, ProofReadCalled}
 use Rattle.rules.specs.Diagnostics.{Diagnostic}
-use Rattle.rules.specs.Items.{StaffArrays}
 use Rattle.rules.specs.Piece.{Piece}
 use Rattle.rules.specs.Refusals.{Result, asItIs}
 
@@ -29,12 +28,19 @@ module _ {A : Type 0} {x : A} where
       → StaffSizeCalled asItIs r work answer work₁ → x ≡ told answer → StaffSizeCalled told r work x work₁
   size-told {told} o e = record { answered = e ∙ ap told (o .answered); work = o .work }
 
-  pub engrave-told : {told : Result StaffSize → A} {size : StaffSize} {r : Result StaffArrays}
-      {counts heads keys work counts₁ heads₁ keys₁ work₁ : List ℕ} {answer : Result StaffSize}
-      → EngraveCalled asItIs size r counts heads keys work answer counts₁ heads₁ keys₁ work₁ → x ≡ told answer
-      → EngraveCalled told size r counts heads keys work x counts₁ heads₁ keys₁ work₁
+  pub engrave-told : {told : Result StaffSize → A} {size : StaffSize} {r : Result EngravedLists}
+      {counts heads keys leftovers work counts₁ heads₁ keys₁ leftovers₁ work₁ : List ℕ} {answer : Result StaffSize}
+      → EngraveCalled asItIs size r counts heads keys leftovers work answer counts₁ heads₁ keys₁ leftovers₁ work₁ → x ≡ told answer
+      → EngraveCalled told size r counts heads keys leftovers work x counts₁ heads₁ keys₁ leftovers₁ work₁
   engrave-told {told} o e =
-      record { answered = e ∙ ap told (o .answered); counts = o .counts; heads = o .heads; keys = o .keys; work = o .work }
+      record {
+        answered = e ∙ ap told (o .answered);
+        counts = o .counts;
+        heads = o .heads;
+        keys = o .keys;
+        leftovers = o .leftovers;
+        work = o .work;
+      }
 
   pub automation-told : {told : Result AutomationCounts → A} {r : Result AutomationLists} {ticks words ticks₁ words₁ : List ℕ}
       {answer : Result AutomationCounts}

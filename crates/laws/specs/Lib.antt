@@ -6,6 +6,7 @@ pub mod Files
 pub mod Grammar
 pub mod HashOrder
 pub mod Ladder
+pub mod Leftovers
 pub mod Lines
 pub mod NoteWords
 pub mod Notes

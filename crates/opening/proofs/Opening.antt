@@ -15,7 +15,7 @@ use Rattle.rules.specs.Refusals.{refused, Refusal, refuse, firstNumber, unless,
 use Rattle.laws.specs.Admitted.{Passes, Admitted}
 use Rattle.laws.proofs.Lists.{All-append, All-left, All-right, All-get}
 use Rattle.laws.proofs.Places.{none-empty, some-left}
-use Rattle.laws.proofs.Refusals.{admitted, passes-append, Numbered, number-first, number-after, number-refused, number-passes, piece-numbers, note-numbers}
+use Rattle.laws.proofs.Refusals.{admitted, admitted-part, passes-append, Numbered, number-first, number-after, number-refused, number-passes, piece-numbers, note-numbers}
 use Rattle.track_events.specs.Track.{Track, eventsOf, stretch}
 use Rattle.tracks.specs.Spans.{IsSpan}
 use Rattle.tracks.specs.declared.Span.{Span}
@@ -79,7 +79,7 @@ module _ (x : Piece) (k : ℕ) {r : OpenedPart} (opened : PartOpened x k r) (z :
   part-passes = number-passes (partRefusals x k) (part-numbers x k) (sym (opened .number) ∙ z)
 
   pub part-admitted : Admitted x
-  part-admitted = admitted x (All-left _ (pieceRefusals x) _ (All-left _ (noteRefusals x) _ part-passes))
+  part-admitted = admitted-part x k part-passes
 
   is-part : k < length (parts x)
   is-part = leb-false (length (parts x)) k (All-right _ (noteRefusals x) _ part-passes .0)

@@ -10,9 +10,8 @@ use Rattle.rules.specs.Lists.{written}
 use Rattle.rules.specs.Piece.{Piece, Event, ticksPerQuarter}
 use Rattle.rules.specs.RawNotes.{parts}
 use Rattle.rules.specs.Bars.{bars, starts, marks}
-use Rattle.rules.specs.Items.{StaffArrays}
 use Rattle.rules.specs.Refusals.{Result, refused, given, pieceRefusals, noteRefusals, asItIs, workNeeded, answers}
-use Rattle.rules.specs.Calls.{StaffSize, partSize, partArrays, engraveCall, EngraveCalled}
+use Rattle.rules.specs.Calls.{StaffSize, partSize, partArrays, EngravedLists, partLists, engraveCall, EngraveCalled}
 use Rattle.laws.specs.Admitted.{Passes}
 use Rattle.laws.proofs.BarLaws.{bars-stop}
 use Rattle.laws.proofs.Refusals.{admitted}
@@ -43,11 +42,11 @@ parts-here x k n l =
     let e : n - k ≡ suc (n - (k + 1)) = omega arith in
     rw e
 
-module _ (ahead-is : PartAhead) (x : Piece) (t : Place) {c₀ h₀ k₀ w₀ c₁ h₁ k₁ w₁ ss ms : List ℕ} {answer : Result StaffSize}
+module _ (ahead-is : PartAhead) (x : Piece) (t : Place) {c₀ h₀ k₀ l₀ w₀ c₁ h₁ k₁ l₁ w₁ ss ms : List ℕ} {answer : Result StaffSize}
     (ready : Ready x (record { items = length h₀; work = length w₀ }) (sheet c₀ h₀ k₀ ss ms) t) (rooms : Rooms (sheet c₀ h₀ k₀ ss ms))
-    (none : t .number ≡ 0) (closed : t .opened ≡ false) (left : t .next < t .parts)
-    (run : EngraveCalled asItIs (partSize x (t .next)) (engraveCall x (t .next) (length c₀) (length h₀) (length k₀) (length w₀))
-    c₀ h₀ k₀ w₀ answer c₁ h₁ k₁ w₁) where
+    (leftovers : 40000 ≤ length l₀) (none : t .number ≡ 0) (closed : t .opened ≡ false) (left : t .next < t .parts)
+    (run : EngraveCalled asItIs (partSize x (t .next)) (engraveCall x (t .next) (length c₀) (length h₀) (length k₀) (length l₀) (length w₀))
+    c₀ h₀ k₀ l₀ w₀ answer c₁ h₁ k₁ l₁ w₁) where
   abbrev k : ℕ
   k = t .next
 
@@ -66,14 +65,15 @@ module _ (ahead-is : PartAhead) (x : Piece) (t : Place) {c₀ h₀ k₀ w₀ c�
       (All-get (λ (es : List Event). manyItems (length h₀) x es .applies ≡ false) (parts x) k []
       (All-unmap _ (manyItems (length h₀) x) (parts x) (room .1)) here)
 
-  engraves : engraveCall x k (length c₀) (length h₀) (length k₀) (length w₀) ≡ given (partArrays x k)
+  engraves : engraveCall x k (length c₀) (length h₀) (length k₀) (length l₀) (length w₀) ≡ given (partLists x k)
   engraves =
       let few = bars-stop x .most in
-      engraves-part x k (length c₀) (length h₀) (length k₀) (length w₀) (part-passes x k (All-left _ (noteRefusals x) _ passes) here)
+      engraves-part x k (length c₀) (length h₀) (length k₀) (length l₀) (length w₀) (part-passes x k (All-left _ (noteRefusals x) _ passes) here)
       (ltb-false (length w₀) (workNeeded x) (room .0)) (omega (arith, rooms .counts)) few-items (omega (arith, few-items, rooms .keys))
+      (omega (arith, leftovers))
 
   answered : answer ≡ given (partSize x k)
-  answered = run .answered ∙ ap (answers (λ (s : StaffArrays). partSize x k)) engraves
+  answered = run .answered ∙ ap (answers (λ (s : EngravedLists). partSize x k)) engraves
 
   pub not-refused : (n : ℕ) → refused n ≡ answer → ⊥
   not-refused n h =

@@ -125,7 +125,7 @@ pub fn goes_on(place: Place) -> bool
     place.next < place.parts
 }
 
-// The next part opened: engraved into the lent arrays. It was found to have room.
+// The next part opened: engraved into the lent arrays. It was found to have room. Its leftovers, four a bar, are not printed.
 fn open_part(
     place: Place,
     sizes: &[u32],
@@ -136,6 +136,7 @@ fn open_part(
     counts: &mut [u32],
     heads: &mut [u32],
     keys: &mut [u64],
+    leftovers: &mut [u32; 40000],
     work: &mut [u64],
 ) -> Place
     requires { ⌜ Ready (piece (now sizes) (now deltas) (now words)) (record { items = length (now heads); work = length (now work) })
@@ -148,7 +149,17 @@ fn open_part(
         (sheet (now (counts .exit)) (now (heads .exit)) (now (keys .exit)) (now (starts .entry)) (now (marks .entry))) r ⌝ }
 {
     let p = tracks::ticks_per_quarter(sizes);
-    match staffs::engrave(sizes, deltas, words, place.next, counts, heads, keys, work) {
+    match staffs::engrave(
+        sizes,
+        deltas,
+        words,
+        place.next,
+        counts,
+        heads,
+        keys,
+        leftovers,
+        work,
+    ) {
         StaffAnswer::Refused(_) => place,
         StaffAnswer::Given(size) => {
             let spot = pages::begin(place.next, p, size.bars);
@@ -174,6 +185,7 @@ pub fn open_next(
     counts: &mut [u32],
     heads: &mut [u32],
     keys: &mut [u64],
+    leftovers: &mut [u32; 40000],
     work: &mut [u64],
 ) -> Place
     requires { ⌜ Ready (piece (now sizes) (now deltas) (now words)) (record { items = length (now heads); work = length (now work) })
@@ -203,6 +215,7 @@ pub fn open_next(
         counts,
         heads,
         keys,
+        leftovers,
         work,
     )
 }

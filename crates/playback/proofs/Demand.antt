@@ -13,7 +13,7 @@ use Rattle.rules.specs.Voices.{voices}
 use Rattle.rules.specs.Values.{smallest}
 use Rattle.rules.specs.Staff.{engravedOn}
 use Rattle.rules.specs.ProofReader.{Right, NoteFound, KeysMeant, EndsMeant}
-use Rattle.rules.specs.Refusals.{pieceRefusals, noteRefusals, partRefusals}
+use Rattle.rules.specs.Refusals.{partRefusals}
 use Rattle.rules.specs.Calls.{partNotes, partEven, proofReadRefusals}
 use Rattle.laws.specs.Admitted.{Passes}
 use Rattle.laws.specs.Lines.{Line}
@@ -21,7 +21,7 @@ use Rattle.laws.proofs.Arrays.{yes-written}
 use Rattle.laws.proofs.BarLaws.{bars-consecutive}
 use Rattle.laws.proofs.Grid.{grid-some}
 use Rattle.laws.proofs.Lists.{All-left, All-right}
-use Rattle.laws.proofs.Refusals.{admitted, ticks-per-quarter-positive, unless-agree}
+use Rattle.laws.proofs.Refusals.{admitted-part, ticks-per-quarter-positive, unless-agree}
 use Rattle.laws.proofs.Splits.{split-total, split-staff}
 use Rattle.laws.proofs.Verdict.{says-even}
 use Rattle.laws.proofs.VoiceLaws.{voices-four, voices-line, voices-found, voices-meant, voices-closed}
@@ -70,7 +70,7 @@ part-even : (x : Piece) (k work : ℕ) → Passes (proofReadRefusals x k work)
     → Even (ticksPerQuarter x) (grid (ticksPerQuarter x) (partNotes x k)) (bars x)
 unfolding barsUpTo
 part-even x k work h =
-    let known = admitted x (All-left _ (pieceRefusals x) _ (All-left _ (noteRefusals x) _ (All-left _ (partRefusals x k) _ h))) in
+    let known = admitted-part x k (All-left _ (partRefusals x k) _ h) in
     let last = All-right _ (partRefusals x k) _ h in
     let evens = says-even _ _ _ .0 (not-false (partEven x k) (last .1 .0)) in
     record {

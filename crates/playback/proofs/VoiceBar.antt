@@ -1,6 +1,6 @@
 -- A voice in a bar: its items lead from what the voice has come to at the bar's start to what it has come to at its end.
 use Prim.Native.Nat.{ℕ, _-_, _≤_, _<_, _∣_, min, max}
-use mathlib.Core.Bool.{Bool, true, false, and-false}
+use mathlib.Core.Bool.{Bool, true, false}
 use mathlib.Core.List.{List, [], _∷_, map, reverseAux}
 use mathlib.Core.Logic.{inl, inr}
 use mathlib.Core.Option.{Option, none, some}
@@ -18,6 +18,7 @@ use Rattle.laws.specs.Lines.{Sound, Line}
 use Rattle.laws.specs.Ladder.{StaffPiece}
 use Rattle.laws.proofs.Order.{by-lt, dvd-min, dvd-max}
 use Rattle.laws.proofs.Lists.{All-imp, keep-none}
+use Rattle.laws.proofs.Sounding.{over, not-yet, keep-here, keep-not}
 use Rattle.playback.specs.Performance.{heardTo}
 use Rattle.playback.proofs.Run.{State, Run, done, run-append, quiet, heard, before, run-rests, run-pieces}
 
@@ -30,17 +31,6 @@ unfoldable pub stateAt : ℕ → List Chord → List Played → State
 stateAt t cs a = record { chords = reverseAux (heardTo t cs) a; tie = tieOf t (keep (soundsIn t t) cs) }
 
 -- ---- chords before, across and after a tick
-
-pub not-yet : (b e : ℕ) (c : Chord) → e ≤ c .start → soundsIn b e c ≡ false
-not-yet b e c o = rw (le-ltb (c .start) e o) (and-false (ltb b (c .end)))
-
-pub keep-sounding : (b e : ℕ) (c : Chord) (cs : List Chord) → b < c .end → c .start < e → keep (soundsIn b e) (c ∷ cs) ≡ c ∷ keep (soundsIn b e) cs
-unfolding keep
-keep-sounding b e c cs h k = rw (lt-ltb b (c .end), lt-ltb (c .start) e)
-
-pub keep-past : (b e : ℕ) (c : Chord) (cs : List Chord) → c .end ≤ b → keep (soundsIn b e) (c ∷ cs) ≡ keep (soundsIn b e) cs
-unfolding keep
-keep-past b e c cs h = rw (le-ltb b (c .end))
 
 module _ (u : ℕ) where
   -- a voice that begins at tick e or later
@@ -141,7 +131,7 @@ module _ (p u : ℕ) (split-total : (t : ℕ) → u ∣ t → sum (map (λ (v : 
           | inl o ↦
               elim (by-lt (c .start) e) [
                 | inl s ↦
-                    rw (keep-sounding b e c cs)
+                    rw (keep-here b e c cs o s)
                     (run-append (entry t from c cs a l h m ut o)
                     (run-append (chord c a (l .1) o s)
                     (onward c cs a (l .2) (l .1 .long) s
@@ -155,7 +145,7 @@ module _ (p u : ℕ) (split-total : (t : ℕ) → u ∣ t → sum (map (λ (v : 
                     (gap t e a k ut ue)
               ]
           | inr o ↦
-              rw (keep-past b e c cs, state-past t c cs a (l .1 .long) (omega arith), state-past e c cs a (l .1 .long) (omega arith))
+              rw (keep-not b e c cs (over b e c o), state-past t c cs a (l .1 .long) (omega arith), state-past e c cs a (l .1 .long) (omega arith))
               (bar-from t (c .end) cs _ (l .2) h k (omega arith) ut)
         ]
 

@@ -26,6 +26,7 @@ pub fn print_opened(
     let mut counts = [0u32; 40000];
     let mut heads = [0u32; 60000];
     let mut keys = [0u64; 120000];
+    let mut leftovers = [0u32; 40000];
     let mut out = io::large_buffer();
     writer::print_lent(
         opened,
@@ -37,6 +38,7 @@ pub fn print_opened(
         &mut counts,
         &mut heads,
         &mut keys,
+        &mut leftovers,
         work,
         &mut out,
     );

@@ -22,6 +22,7 @@ fn turn(
     counts: &mut [u32],
     heads: &mut [u32],
     keys: &mut [u64],
+    leftovers: &mut [u32; 40000],
     work: &mut [u64],
     out: &mut [u8],
 ) -> Place
@@ -44,6 +45,7 @@ fn turn(
         counts,
         heads,
         keys,
+        leftovers,
         work,
     );
     let put = page_openings::put_lines(open, counts, heads, keys, starts, marks, out);
@@ -63,6 +65,7 @@ fn print_page(
     counts: &mut [u32],
     heads: &mut [u32],
     keys: &mut [u64],
+    leftovers: &mut [u32; 40000],
     work: &mut [u64],
     out: &mut [u8],
 )
@@ -83,6 +86,7 @@ fn print_page(
             counts,
             heads,
             keys,
+            leftovers,
             work,
             out,
         );
@@ -100,6 +104,7 @@ pub fn print_lent(
     counts: &mut [u32],
     heads: &mut [u32],
     keys: &mut [u64],
+    leftovers: &mut [u32; 40000],
     work: &mut [u64],
     out: &mut [u8],
 )
@@ -123,6 +128,7 @@ pub fn print_lent(
         counts,
         heads,
         keys,
+        leftovers,
         work,
         out,
     );

@@ -40,13 +40,13 @@ module _ (code part : ℕ) (x : Piece) (bytes : List ℕ) (l : Left) where
   unfolding outcome
   size-left e o = rw (e, o .answered, o .work)
 
-  pub engrave-left : {said counts heads keys work : List ℕ} → code ≡ 6
+  pub engrave-left : {said counts heads keys leftovers work : List ℕ} → code ≡ 6
       → EngraveCalled (saying sizeNumbers (l .said)) (partSize x part)
-      (engraveCall x part (length (l .c)) (length (l .d)) (length (l .a)) (length (l .work)))
-      (l .c) (l .d) (l .a) (l .work) said counts heads keys work
-      → left said keys (l .b) counts heads (l .e) work ≡ outcome code part x bytes l
+      (engraveCall x part (length (l .c)) (length (l .d)) (length (l .a)) (length (l .e)) (length (l .work)))
+      (l .c) (l .d) (l .a) (l .e) (l .work) said counts heads keys leftovers work
+      → left said keys (l .b) counts heads leftovers work ≡ outcome code part x bytes l
   unfolding outcome
-  engrave-left e o = rw (e, o .answered, o .counts, o .heads, o .keys, o .work)
+  engrave-left e o = rw (e, o .answered, o .counts, o .heads, o .keys, o .leftovers, o .work)
 
   pub automation-left : {said ticks words : List ℕ} → code ≡ 7
       → AutomationCalled (saying automationNumbers (l .said)) (automationCall x part (length (l .a)) (length (l .c))) (l .a) (l .c) said ticks words

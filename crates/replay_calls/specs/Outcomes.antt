@@ -12,7 +12,7 @@ use Rattle.rules.specs.Items.{StaffArrays}
 use Rattle.rules.specs.Automation.{AutomationLists}
 use Rattle.rules.specs.Diagnostics.{Diagnostic, placeOf, detailOf}
 use Rattle.rules.specs.Calls.{headCall, partCountCall, partHeadCall, barsCall, staffSizeCall, engraveCall, automationCall, diagnosticsCall, proofReadCall}
-use Rattle.rules.specs.Calls.{BarLists, StaffSize, AutomationCounts, partSize, countsOf}
+use Rattle.rules.specs.Calls.{BarLists, StaffSize, EngravedLists, AutomationCounts, partSize, countsOf}
 use Rattle.bar_marks.specs.Marks.{keyFifths, keyMinor}
 use Rattle.replay_answers.specs.Numbers.{saying}
 use Rattle.replay_file_calls.specs.Outcomes as files
@@ -76,16 +76,16 @@ barsLeft r l =
       work = l .work;
     }
 
--- c: counts, d: heads, a: keys
-abbrev pub engraveLeft : StaffSize → Result StaffArrays → Left → Left
+-- c: counts, d: heads, e: leftovers, a: keys
+abbrev pub engraveLeft : StaffSize → Result EngravedLists → Left → Left
 engraveLeft size r l =
     record {
-      said = saying sizeNumbers (l .said) (answers (λ (o : StaffArrays). size) r);
-      a = written (writes (λ (o : StaffArrays). o .keys) r) (l .a);
+      said = saying sizeNumbers (l .said) (answers (λ (o : EngravedLists). size) r);
+      a = written (writes (λ (o : EngravedLists). o .staff .keys) r) (l .a);
       b = l .b;
-      c = written (writes (λ (o : StaffArrays). o .counts) r) (l .c);
-      d = written (writes (λ (o : StaffArrays). o .heads) r) (l .d);
-      e = l .e;
+      c = written (writes (λ (o : EngravedLists). o .staff .counts) r) (l .c);
+      d = written (writes (λ (o : EngravedLists). o .staff .heads) r) (l .d);
+      e = written (writes (λ (o : EngravedLists). o .leftovers) r) (l .e);
       work = cleared (l .work);
     }
 
@@ -137,7 +137,7 @@ outcome code part x bytes l =
     (cond (eqb code 4) (barsLeft (barsCall x (length (l .a)) (length (l .b))) l)
     (cond (eqb code 5) (workLeft sizeNumbers (staffSizeCall x part (length (l .work))) l)
     (cond (eqb code 6)
-    (engraveLeft (partSize x part) (engraveCall x part (length (l .c)) (length (l .d)) (length (l .a)) (length (l .work))) l)
+    (engraveLeft (partSize x part) (engraveCall x part (length (l .c)) (length (l .d)) (length (l .a)) (length (l .e)) (length (l .work))) l)
     (cond (eqb code 7) (automationLeft (automationCall x part (length (l .a)) (length (l .c))) l)
     (cond (eqb code 8) (diagnosticsLeft (diagnosticsCall x (length (l .a)) (length (l .b)) (length (l .work))) l)
     (cond (eqb code 11) (workLeft readNumbers (proofReadCall x part (staffLent l) (length (l .work))) l)

@@ -128,6 +128,7 @@ pub fn engrave(
     counts: &mut [u32],
     heads: &mut [u32],
     keys: &mut [u64],
+    leftovers: &mut [u32],
     work: &mut [u64],
     said: &mut [u64],
 )
@@ -135,12 +136,23 @@ pub fn engrave(
     ensures { λ _. ⌜ EngraveCalled (saying sizeNumbers (now (said .entry)))
         (partSize (piece (now (sizes .entry)) (now (deltas .entry)) (now (words .entry))) part)
         (engraveCall (piece (now (sizes .entry)) (now (deltas .entry)) (now (words .entry))) part
-        (length (now (counts .entry))) (length (now (heads .entry))) (length (now (keys .entry))) (length (now (work .entry))))
-        (now (counts .entry)) (now (heads .entry)) (now (keys .entry)) (now (work .entry))
-        (now (said .exit)) (now (counts .exit)) (now (heads .exit)) (now (keys .exit)) (now (work .exit)) ⌝ }
+        (length (now (counts .entry))) (length (now (heads .entry))) (length (now (keys .entry))) (length (now (leftovers .entry)))
+        (length (now (work .entry))))
+        (now (counts .entry)) (now (heads .entry)) (now (keys .entry)) (now (leftovers .entry)) (now (work .entry))
+        (now (said .exit)) (now (counts .exit)) (now (heads .exit)) (now (keys .exit)) (now (leftovers .exit)) (now (work .exit)) ⌝ }
 {
     say_size(
-        staffs::engrave(sizes, deltas, words, part, counts, heads, keys, work),
+        staffs::engrave(
+            sizes,
+            deltas,
+            words,
+            part,
+            counts,
+            heads,
+            keys,
+            leftovers,
+            work,
+        ),
         said,
     );
 }

@@ -34,7 +34,7 @@ pub fn call(
         3 => answers::part_head(sizes, deltas, words, part, said),
         4 => answers::bars(sizes, deltas, words, a, b, said),
         5 => answers::staff_size(sizes, deltas, words, part, work, said),
-        6 => answers::engrave(sizes, deltas, words, part, c, d, a, work, said),
+        6 => answers::engrave(sizes, deltas, words, part, c, d, a, e, work, said),
         7 => answers::automation(sizes, deltas, words, part, a, c, said),
         8 => answers::diagnostics(sizes, deltas, words, a, b, work, said),
         11 => answers::proof_read(sizes, deltas, words, part, c, d, a, work, said),

@@ -18,10 +18,10 @@ fn list_place(code: usize, what: usize) -> usize {
         return 2;
     }
     if 11 < code {
-        return 14;
+        return 15;
     }
     if 7 < what {
-        return 14;
+        return 15;
     }
     match code * 8 + what {
         33 => 3,
@@ -35,13 +35,14 @@ fn list_place(code: usize, what: usize) -> usize {
         66 => 11,
         83 => 12,
         84 => 13,
+        53 => 14,
         _ => 0,
     }
 }
 
 fn list_name(code: usize, what: usize) {
     let names =
-        b"list\x00answer\x00work\x00starts\x00marks\x00keys\x00counts\x00heads\x00ticks\x00words\x00places\x00details\x00sizes\x00deltas";
+        b"list\x00answer\x00work\x00starts\x00marks\x00keys\x00counts\x00heads\x00ticks\x00words\x00places\x00details\x00sizes\x00deltas\x00leftovers";
     io::write_all(1, texts::nth(names, list_place(code, what)));
 }
 

@@ -15,7 +15,7 @@ use Rattle.rules.specs.Bars.{bars, starts, marks}
 use Rattle.rules.specs.Grid.{grid}
 use Rattle.rules.specs.Values.{beats256}
 use Rattle.rules.specs.Items.{StaffArrays, arraysOf, itemsOf}
-use Rattle.rules.specs.Staff.{partStaff}
+use Rattle.rules.specs.Staff.{partStaff, staffLeftovers}
 use Rattle.rules.specs.ProofReaderTests.{verdict, even?}
 use Rattle.rules.specs.Automation.{AutomationLists, automationLists}
 use Rattle.rules.specs.Diagnostics.{Diagnostic, diagnostics, placeOf, detailOf}
@@ -76,27 +76,41 @@ pub record StaffSizeCalled {A : Type 0} (told : Result StaffSize → A) (r : Res
 abbrev pub partArrays : Piece → ℕ → StaffArrays
 partArrays x k = arraysOf (partStaff x (partTrack x k))
 
--- the piece, the part, and the room for counts, heads, keys and work
-abbrev pub engraveCall : Piece → ℕ → ℕ → ℕ → ℕ → ℕ → Result StaffArrays
-engraveCall x k room-counts room-heads room-keys work =
+-- M-101: part k's leftovers, four a bar in the order of the counts
+abbrev pub partLeftovers : Piece → ℕ → List ℕ
+partLeftovers x k = staffLeftovers x (partTrack x k)
+
+-- what engraving writes: the staff's three arrays, and its leftovers
+pub record EngravedLists : Type 0 where
+  pub staff : StaffArrays
+  pub leftovers : List ℕ
+
+abbrev pub partLists : Piece → ℕ → EngravedLists
+partLists x k = record { staff = partArrays x k; leftovers = partLeftovers x k }
+
+-- the piece, the part, and the room for counts, heads, keys, leftovers and work
+abbrev pub engraveCall : Piece → ℕ → ℕ → ℕ → ℕ → ℕ → ℕ → Result EngravedLists
+engraveCall x k room-counts room-heads room-keys room-leftovers work =
     unless
     (partRefusals x k
     ++ (shortWork x work
     ∷ shortOutput room-counts (partArrays x k .counts)
     ∷ shortOutput room-heads (partArrays x k .heads)
     ∷ shortOutput room-keys (partArrays x k .keys)
+    ∷ shortOutput room-leftovers (partLeftovers x k)
     ∷ []))
-    (partArrays x k)
+    (partLists x k)
 
 -- It answers the staff's size.
 pub record EngraveCalled
-    {A : Type 0} (told : Result StaffSize → A) (size : StaffSize) (r : Result StaffArrays) (counts₀ heads₀ keys₀ work₀ : List ℕ)
-    (answer : A) (counts₁ heads₁ keys₁ work₁ : List ℕ)
+    {A : Type 0} (told : Result StaffSize → A) (size : StaffSize) (r : Result EngravedLists) (counts₀ heads₀ keys₀ leftovers₀ work₀ : List ℕ)
+    (answer : A) (counts₁ heads₁ keys₁ leftovers₁ work₁ : List ℕ)
     : Type 0 where
-  pub answered : answer ≡ told (answers (λ (s : StaffArrays). size) r)
-  pub counts : counts₁ ≡ written (writes (λ (s : StaffArrays). s .counts) r) counts₀
-  pub heads : heads₁ ≡ written (writes (λ (s : StaffArrays). s .heads) r) heads₀
-  pub keys : keys₁ ≡ written (writes (λ (s : StaffArrays). s .keys) r) keys₀
+  pub answered : answer ≡ told (answers (λ (s : EngravedLists). size) r)
+  pub counts : counts₁ ≡ written (writes (λ (s : EngravedLists). s .staff .counts) r) counts₀
+  pub heads : heads₁ ≡ written (writes (λ (s : EngravedLists). s .staff .heads) r) heads₀
+  pub keys : keys₁ ≡ written (writes (λ (s : EngravedLists). s .staff .keys) r) keys₀
+  pub leftovers : leftovers₁ ≡ written (writes (λ (s : EngravedLists). s .leftovers) r) leftovers₀
   pub work : work₁ ≡ cleared work₀
 
 -- ---- automation: 1 to 8

@@ -20,6 +20,7 @@ pub mod File
 pub mod Calls
 pub mod Examples
 pub mod FurtherExamples
+pub mod LeftoverExamples
 pub mod EventExamples
 pub mod RefusalExamples
 pub mod ReadingExamples

@@ -11,7 +11,7 @@ use Rattle.rules.specs.Grid.{isOffGrid, grid}
 use Rattle.rules.specs.Voices.{joinOrOpen, choose, place, voices}
 use Rattle.rules.specs.Values.{values, splitIn, twos}
 use Rattle.rules.specs.Items.{StaffArrays}
-use Rattle.rules.specs.Staff.{pieces, filled, voiceIn}
+use Rattle.rules.specs.Staff.{pieces, filled, voiceIn, filledLeft, voiceLeft}
 use Rattle.rules.specs.ProofReaderTests.{even?}
 use Rattle.rules.specs.Automation.{automationLists, cancelled, sameMessages, isDropped}
 use Rattle.rules.specs.Diagnostics.{inTracks, diagnostics}
@@ -90,11 +90,12 @@ refusals =
     ∷ one (numberOf (staffSizeCall printedPiece 0 4112)) 0
     ∷ one (numberOf (staffSizeCall printedPiece 0 4111)) 8
     ∷ one (numberOf (staffSizeCall printedPiece 1 4111)) 7
-    ∷ one (numberOf (engraveCall printedPiece 0 4 2 4 4112)) 0
-    ∷ one (numberOf (engraveCall printedPiece 0 3 2 4 4112)) 8
-    ∷ one (numberOf (engraveCall printedPiece 0 4 1 4 4112)) 8
-    ∷ one (numberOf (engraveCall printedPiece 0 4 2 3 4112)) 8
-    ∷ one (numberOf (engraveCall printedPiece 1 0 0 0 0)) 7
+    ∷ one (numberOf (engraveCall printedPiece 0 4 2 4 4 4112)) 0
+    ∷ one (numberOf (engraveCall printedPiece 0 3 2 4 4 4112)) 8
+    ∷ one (numberOf (engraveCall printedPiece 0 4 1 4 4 4112)) 8
+    ∷ one (numberOf (engraveCall printedPiece 0 4 2 3 4 4112)) 8
+    ∷ one (numberOf (engraveCall printedPiece 0 4 2 4 3 4112)) 8
+    ∷ one (numberOf (engraveCall printedPiece 1 0 0 0 0 0)) 7
     ∷ one (numberOf (automationCall (withWords (151010368 ∷ word 11 0 7 1 ∷ 0 ∷ [])) 0 1 1)) 0
     ∷ one (numberOf (automationCall (withWords (151010368 ∷ word 11 0 7 1 ∷ 0 ∷ [])) 0 0 1)) 8
     ∷ one (numberOf (automationCall (withWords (151010368 ∷ word 11 0 7 1 ∷ 0 ∷ [])) 0 1 0)) 8
@@ -123,7 +124,7 @@ refusals =
 pub refusals-hold : given refusals ≡ wanted refusals
 unfolding refusals keep any every position changeFirst insert sortBy sum flatMap flatten sizesAgree timed cutTracks wellFormed withoutOldest pairOne
     rawNotesOf mostNotes barsFrom endOfPiece barsUpTo printedFrom marksFrom isOffGrid grid joinOrOpen choose place voices values splitIn twos pieces
-    filled voiceIn even? automationLists cancelled sameMessages isDropped inTracks diagnostics unless eventRefusals pieceRefusals
+    filled voiceIn filledLeft voiceLeft even? automationLists cancelled sameMessages isDropped inTracks diagnostics unless eventRefusals pieceRefusals
 refusals-hold = refl
 
 -- ---- what no row computes: pieces of many events and of many tracks

@@ -22,7 +22,7 @@ use Rattle.items.proofs.Appending.{Going, going-start, going-room, going-more, 
 use Rattle.staff.specs.declared.Engraving.{Engraving}
 use Rattle.staff.specs.declared.Reached.{Reached}
 use Rattle.bar_voice.specs.Voices.{voiceOf}
-use Rattle.staff.specs.Bars.{CanCount, Counted, barVoice, barVoices, AllPast, CanPush, BarPut}
+use Rattle.staff.specs.Bars.{CanCount, Counted, barVoice, barVoices, barLeft, AllPast, CanPush, BarPut}
 
 -- one word, written or not
 pub put-one : (x at : ℕ) (l : List ℕ) → at < length l → Put true (x ∷ []) at l (set l at x)
@@ -44,19 +44,23 @@ unfolding flatten
 ahead-no f v h = rw (count-none v 4 h)
 
 -- the voices before v are written
-module _ (write : Bool) (p n : ℕ) (w lens : List ℕ) (bar : Measure) (s : Engraving) (counts₀ heads₀ keys₀ : List ℕ) where
+module _ (write : Bool) (p n : ℕ) (w lens : List ℕ) (bar : Measure) (s : Engraving) (counts₀ heads₀ keys₀ leftovers₀ : List ℕ) where
   abbrev inBar : ℕ → List Item
   inBar v = barVoice p n w lens (bar .start) (bar .end) v
 
-  pub record Midway (counts₁ heads₁ keys₁ nexts₁ : List ℕ) (at v : ℕ) : Type 0 where
+  abbrev leftInBar : ℕ → ℕ
+  leftInBar v = barLeft p n w lens (bar .start) (bar .end) v
+
+  pub record Midway (counts₁ heads₁ keys₁ leftovers₁ nexts₁ : List ℕ) (at v : ℕ) : Type 0 where
     pub within : v ≤ 4
     pub four : length nexts₁ ≡ 4
     pub nexts : AllPast n w lens (bar .start) nexts₁
     pub going : Going write (flatten (barVoices p n w lens (bar .start) (bar .end))) (ahead inBar v) (s .items) heads₀ keys₀ heads₁ keys₁ at
     pub counts : Put write (map length (upTo inBar v)) (4 * s .bars) counts₀ counts₁
+    pub leftovers : Put write (upTo leftInBar v) (4 * s .bars) leftovers₀ leftovers₁
 
-  module _ (can : CanPush write p n w lens bar s counts₀ heads₀ keys₀) where
-    pub midway-start : Midway counts₀ heads₀ keys₀ (s .nexts) (s .items) 0
+  module _ (can : CanPush write p n w lens bar s counts₀ heads₀ keys₀ leftovers₀) where
+    pub midway-start : Midway counts₀ heads₀ keys₀ leftovers₀ (s .nexts) (s .items) 0
     unfolding count
     midway-start =
         record {
@@ -65,14 +69,18 @@ module _ (write : Bool) (p n : ℕ) (w lens : List ℕ) (bar : Measure) (s : Eng
           nexts = can .nexts;
           going = going-start write _ (s .items) heads₀ keys₀;
           counts = put-none write (4 * s .bars) counts₀;
+          leftovers = put-none write (4 * s .bars) leftovers₀;
         }
 
-    module _ {counts₁ heads₁ keys₁ nexts₁ : List ℕ} {at v : ℕ} (m : Midway counts₁ heads₁ keys₁ nexts₁ at v) where
+    module _ {counts₁ heads₁ keys₁ leftovers₁ nexts₁ : List ℕ} {at v : ℕ} (m : Midway counts₁ heads₁ keys₁ leftovers₁ nexts₁ at v) where
       so-many : length (map length (upTo inBar v)) ≡ v
       so-many = length-map (upTo inBar v) length ∙ upTo-length inBar v
 
       counts-fit : write ≡ true → 4 * s .bars + length (map length (upTo inBar v)) ≤ length counts₀
       counts-fit e = omega (arith, can .counts-fit e, so-many, m .within)
+
+      leftovers-fit : write ≡ true → 4 * s .bars + length (upTo leftInBar v) ≤ length leftovers₀
+      leftovers-fit e = omega (arith, can .leftovers-fit e, upTo-length leftInBar v, m .within)
 
       -- the outputs keep their lengths
       pub midway-counts : length counts₁ ≡ length counts₀
@@ -84,23 +92,31 @@ module _ (write : Bool) (p n : ℕ) (w lens : List ℕ) (bar : Measure) (s : Eng
       pub midway-keys : length keys₁ ≡ length keys₀
       midway-keys = going-keys (can .room) (m .going)
 
+      pub midway-leftovers : length leftovers₁ ≡ length leftovers₀
+      midway-leftovers = put-length write leftovers-fit (m .leftovers)
+
       module _ (h : v < 4) where
         -- what `push_counted` asks
-        pub midway-can : CanCount write p (eqb v 0) (voiceOf n w v (getD lens v 0)) (getD nexts₁ v 0) bar (4 * s .bars + v) at counts₁ heads₁ keys₁
+        pub midway-can :
+            CanCount write p (eqb v 0) (voiceOf n w v (getD lens v 0)) (getD nexts₁ v 0) bar (4 * s .bars + v) at counts₁ heads₁ keys₁ leftovers₁
         midway-can =
             record {
               some-bar = can .some-bar;
               short = can .short;
               past = m .nexts v h;
               counts-fit = λ e. omega (arith, can .counts-fit e, midway-counts);
+              leftovers-fit = λ e. omega (arith, can .leftovers-fit e, midway-leftovers);
               room = going-room (can .room) (m .going) (inBar v) (ahead inBar (v + 1)) (ahead-one inBar v h);
             }
 
-        pub midway-more : {counts₂ heads₂ keys₂ : List ℕ} {r : Reached}
-            → Counted write p (eqb v 0) (voiceOf n w v (getD lens v 0)) bar (4 * s .bars + v) at counts₁ heads₁ keys₁ counts₂ heads₂ keys₂ r
-            → Midway counts₂ heads₂ keys₂ (set nexts₁ v (r .next)) (r .at) (v + 1)
+        pub midway-more : {counts₂ heads₂ keys₂ leftovers₂ : List ℕ} {r : Reached}
+            → Counted write p (eqb v 0) (voiceOf n w v (getD lens v 0)) bar (4 * s .bars + v) at
+            counts₁ heads₁ keys₁ leftovers₁ counts₂ heads₂ keys₂ leftovers₂ r
+            → Midway counts₂ heads₂ keys₂ leftovers₂ (set nexts₁ v (r .next)) (r .at) (v + 1)
         midway-more {r = r} c =
             let place : 4 * s .bars + v ≡ 4 * s .bars + length (map length (upTo inBar v)) = ap (λ (k : ℕ). 4 * s .bars + k) (sym so-many) in
+            let left-place : 4 * s .bars + v ≡ 4 * s .bars + length (upTo leftInBar v)
+            = ap (λ (k : ℕ). 4 * s .bars + k) (sym (upTo-length leftInBar v)) in
             record {
               within = omega arith;
               four = length-set nexts₁ v (r .next) ∙ m .four;
@@ -112,10 +128,11 @@ module _ (write : Bool) (p n : ℕ) (w lens : List ℕ) (bar : Measure) (s : Eng
                   ];
               going = going-more (can .room) (m .going) (inBar v) (ahead inBar (v + 1)) (ahead-one inBar v h) (c .items);
               counts = rw (upTo-more inBar v, map-append) (put-append write counts-fit (m .counts) (rw place at (c .counts)));
+              leftovers = rw (upTo-more leftInBar v) (put-append write leftovers-fit (m .leftovers) (rw left-place at (c .leftovers)));
             }
 
       pub midway-end : 4 ≤ v → (r : Engraving) → r .bars ≡ s .bars + 1 → r .items ≡ at → r .nexts ≡ nexts₁
-          → BarPut write p n w lens bar s counts₀ heads₀ keys₀ counts₁ heads₁ keys₁ r
+          → BarPut write p n w lens bar s counts₀ heads₀ keys₀ leftovers₀ counts₁ heads₁ keys₁ leftovers₁ r
       midway-end h r bars items nexts =
           let all : v ≡ 4 = omega (arith, m .within) in
           record {
@@ -124,4 +141,5 @@ module _ (write : Bool) (p n : ℕ) (w lens : List ℕ) (bar : Measure) (s : Eng
             nexts = rw nexts (m .nexts);
             items = rw items (going-done (can .room) (m .going) (ahead-no inBar v h));
             counts = rw all at (m .counts);
+            leftovers = rw all at (m .leftovers);
           }

@@ -8,9 +8,11 @@ use native.Mathlib.Omega.{arith}
 use lib.ListN.{length, getD, drop, replicate, getD-replicate, length-append, length-map}
 use Rattle.rules.specs.Bars.{Bar, barEnd, barLength, barsFrom}
 use Rattle.rules.specs.Items.{Item, itemsOf, arraysOf, headOf}
-use Rattle.rules.specs.Staff.{staffOf}
+use Rattle.rules.specs.Staff.{staffOf, leftoversOf}
 use Rattle.rules.specs.Voices.{Chord}
 use Rattle.track_events.specs.Track.{eventsOf}
+use Rattle.laws.proofs.BarLaws.{meter-small, bar-short}
+use Rattle.laws.proofs.Leftovers.{leftovers-length}
 use Rattle.laws.proofs.Places.{upTo-length}
 use Rattle.bar_walk.specs.declared.Walker.{Walker}
 use Rattle.bar_walk.specs.Steps.{meterIn, nextOf}
@@ -23,10 +25,11 @@ use Rattle.items.proofs.Putting.{put-none, put-length, put-append}
 use Rattle.items.proofs.Appending.{keys-length, items-none, items-append, heads-kept, keys-kept}
 use Rattle.staff.specs.declared.Engraving.{Engraving}
 use Rattle.bar_voice.specs.Voices.{voiceOf}
-use Rattle.staff.specs.Bars.{voicesOf, VoicesHeld, barVoices, AllPast, CanPush, BarPut}
+use Rattle.staff.specs.Bars.{voicesOf, VoicesHeld, barVoices, barLefts, AllPast, CanPush, BarPut}
 use Rattle.staff.specs.Staffs.{barsOf, StaffRoom, StaffPut}
 use Rattle.bar_voice.proofs.VoiceWalk.{past-later, past-none}
-use Rattle.staff.proofs.StaffSizes.{counts-length, bar-voices, counts-more, items-more, voices-part, items-part, bar-few, meter-small, bar-short}
+use Rattle.staff.proofs.StaffSizes.{bar-voices, bar-lefts, counts-more, items-more, leftovers-more, voices-part, items-part}
+use Rattle.staff.proofs.StaffSizes.{counts-length, bar-few}
 
 -- the walker's bar, from its start to its end
 abbrev pub measureOf : Walker → Measure
@@ -40,7 +43,7 @@ ahead-first {ds} {ws} {a} bar end limit n h =
     let one : limit - n ≡ suc (limit - (n + 1)) = omega arith in
     rw one (rw (← bar .meter))
 
-module _ (write : Bool) (ds ws : List ℕ) (end limit p n : ℕ) (w lens : List ℕ) (counts₀ heads₀ keys₀ : List ℕ) where
+module _ (write : Bool) (ds ws : List ℕ) (end limit p n : ℕ) (w lens : List ℕ) (counts₀ heads₀ keys₀ leftovers₀ : List ℕ) where
   abbrev all : List Bar
   all = barsOf ds ws p end limit
 
@@ -51,20 +54,29 @@ module _ (write : Bool) (ds ws : List ℕ) (end limit p n : ℕ) (w lens : List 
   four-voices = upTo-length (λ v. voiceOf n w v (getD lens v 0)) 4
 
   -- these bars are written
-  pub record Written (done : List Bar) (counts₁ heads₁ keys₁ : List ℕ) (s : Engraving) : Type 0 where
+  pub record Written (done : List Bar) (counts₁ heads₁ keys₁ leftovers₁ : List ℕ) (s : Engraving) : Type 0 where
     pub many : s .bars ≡ length done
     pub items : Items write (itemsOf (staffOf p vs done)) 0 heads₀ keys₀ heads₁ keys₁ (s .items)
     pub counts : Put write (arraysOf (staffOf p vs done) .counts) 0 counts₀ counts₁
+    pub leftovers : Put write (leftoversOf p vs done) 0 leftovers₀ leftovers₁
 
   -- all bars are
-  finished : {counts₁ heads₁ keys₁ : List ℕ} {s : Engraving} → Written all counts₁ heads₁ keys₁ s
-      → StaffPut write all (staffOf p vs all) counts₀ heads₀ keys₀ counts₁ heads₁ keys₁ s
-  finished d = record { bars = d .many; items = d .items .next ∙ zero-add _; counts = d .counts; heads = d .items .heads; keys = d .items .keys }
+  finished : {counts₁ heads₁ keys₁ leftovers₁ : List ℕ} {s : Engraving} → Written all counts₁ heads₁ keys₁ leftovers₁ s
+      → StaffPut write all (staffOf p vs all) (leftoversOf p vs all) counts₀ heads₀ keys₀ leftovers₀ counts₁ heads₁ keys₁ leftovers₁ s
+  finished d =
+      record {
+        bars = d .many;
+        items = d .items .next ∙ zero-add _;
+        counts = d .counts;
+        heads = d .items .heads;
+        keys = d .items .keys;
+        leftovers = d .leftovers;
+      }
 
   -- and the walker is at the next
-  pub record Onward (counts₁ heads₁ keys₁ : List ℕ) (a : Walker) (s : Engraving) : Type 0 where
+  pub record Onward (counts₁ heads₁ keys₁ leftovers₁ : List ℕ) (a : Walker) (s : Engraving) : Type 0 where
     pub done : List Bar
-    pub written : Written done counts₁ heads₁ keys₁ s
+    pub written : Written done counts₁ heads₁ keys₁ leftovers₁ s
     pub walking : Walking ds ws p a
     pub whole : done ++ barsAhead ds ws end (limit - s .bars) a ≡ all
     pub few : s .items ≤ 4 * a .start
@@ -72,12 +84,18 @@ module _ (write : Bool) (ds ws : List ℕ) (end limit p n : ℕ) (w lens : List 
     pub nexts : AllPast n w lens (a .start) (s .nexts)
 
   pub onward-start : {a : Walker} → Settled ds ws (firstWalker ds ws p) a
-      → Onward counts₀ heads₀ keys₀ a (record { bars = 0; items = 0; nexts = replicate 4 0 })
+      → Onward counts₀ heads₀ keys₀ leftovers₀ a (record { bars = 0; items = 0; nexts = replicate 4 0 })
   unfolding flatten
   onward-start {a} s =
       record {
         done = [];
-        written = record { many = refl; items = items-none write 0 heads₀ keys₀; counts = put-none write 0 counts₀ };
+        written =
+            record {
+              many = refl;
+              items = items-none write 0 heads₀ keys₀;
+              counts = put-none write 0 counts₀;
+              leftovers = put-none write 0 leftovers₀;
+            };
         walking = walking-start s;
         whole = ahead-all end limit p s;
         few = omega arith;
@@ -85,7 +103,7 @@ module _ (write : Bool) (ds ws : List ℕ) (end limit p n : ℕ) (w lens : List 
         nexts = λ v h. rw (getD-replicate {A = ℕ} 4 v 0 0 h) (past-none (a .start) (voiceOf n w v (getD lens v 0)));
       }
 
-  module _ (room : StaffRoom write (staffOf p vs all) counts₀ heads₀ keys₀) where
+  module _ (room : StaffRoom write (staffOf p vs all) (leftoversOf p vs all) counts₀ heads₀ keys₀ leftovers₀) where
     -- the first bars have room
     module _ (done rest : List Bar) (whole : done ++ rest ≡ all) where
       counts-fit : write ≡ true → 0 + length (arraysOf (staffOf p vs done) .counts) ≤ length counts₀
@@ -93,6 +111,17 @@ module _ (write : Bool) (ds ws : List ℕ) (end limit p n : ℕ) (w lens : List 
           let l = rw whole at (voices-part p vs done rest) in
           let count = length {A = Item} in
           omega (arith, l, room .counts-fit e, length-map (flatten (staffOf p vs done)) count, length-map (flatten (staffOf p vs all)) count)
+
+      leftovers-fit : write ≡ true → 0 + length (leftoversOf p vs done) ≤ length leftovers₀
+      leftovers-fit e =
+          omega (
+            arith,
+            leftovers-length p vs four-voices done,
+            leftovers-length p vs four-voices all,
+            length-append done rest,
+            ap length whole,
+            room .leftovers-fit e,
+          )
 
       items-fit : length (itemsOf (staffOf p vs done)) < 2 ^ 60 → Room write (length (itemsOf (staffOf p vs done))) 0 heads₀ keys₀
       items-fit small =
@@ -103,15 +132,19 @@ module _ (write : Bool) (ds ws : List ℕ) (end limit p n : ℕ) (w lens : List 
             small = omega (arith, small);
           }
 
-    module _ (held : VoicesHeld n w lens) (ticks : p ≤ 65535) {counts₁ heads₁ keys₁ : List ℕ} {a : Walker} {s : Engraving}
-        (o : Onward counts₁ heads₁ keys₁ a s) where
+    module _ (held : VoicesHeld n w lens) (ticks : p ≤ 65535) {counts₁ heads₁ keys₁ leftovers₁ : List ℕ} {a : Walker} {s : Engraving}
+        (o : Onward counts₁ heads₁ keys₁ leftovers₁ a s) where
       abbrev rest : List Bar
       rest = barsAhead ds ws end (limit - s .bars) a
 
       -- the walker's bar has a length, and not too great a one
       short : barLength (a .p) (meterIn a) < 2 ^ 27
       short =
-          bar-short (a .p) (meterIn a) (omega (arith, o .walking .ticks)) (rw (o .walking .bar .meter) (meter-small (eventsOf ds ws) (a .start)))
+          omega (
+            arith,
+            o .walking .ticks,
+            bar-short (a .p) (meterIn a) (rw (o .walking .bar .meter) (meter-small (eventsOf ds ws) (a .start))),
+          )
 
       some-length : 0 < barLength (a .p) (meterIn a)
       some-length = omega arith
@@ -135,6 +168,9 @@ module _ (write : Bool) (ds ws : List ℕ) (end limit p n : ℕ) (w lens : List 
       pub onward-keys : length keys₁ ≡ length keys₀
       onward-keys = keys-kept so-far (o .written .items)
 
+      pub onward-leftovers : length leftovers₁ ≡ length leftovers₀
+      onward-leftovers = put-length write (leftovers-fit (o .done) rest (o .whole)) (o .written .leftovers)
+
       module _ (more : s .bars < limit) where
         -- the bars written, the walker's, and those behind it
         next : (o .done ++ (barOf a ∷ [])) ++ drop 1 rest ≡ all
@@ -154,6 +190,10 @@ module _ (write : Bool) (ds ws : List ℕ) (end limit p n : ℕ) (w lens : List 
         counts-here : arraysOf (staffOf p vs (o .done ++ (barOf a ∷ []))) .counts ≡ arraysOf (staffOf p vs (o .done)) .counts ++ map length here
         counts-here = counts-more p vs (o .done) (barOf a) ∙ rw (bar-voices p n w lens (barOf a))
 
+        leftovers-here :
+            leftoversOf p vs (o .done ++ (barOf a ∷ [])) ≡ leftoversOf p vs (o .done) ++ barLefts p n w lens (a .start) (barEnd (barOf a))
+        leftovers-here = leftovers-more p vs (o .done) (barOf a) ∙ rw (bar-lefts p n w lens (barOf a))
+
         all-items : length (itemsOf (staffOf p vs (o .done ++ (barOf a ∷ [])))) ≡ s .items + length (flatten here)
         all-items = ap length items-here ∙ length-append (itemsOf (staffOf p vs (o .done))) (flatten here) ∙ omega (arith, o .written .items .next)
 
@@ -161,7 +201,7 @@ module _ (write : Bool) (ds ws : List ℕ) (end limit p n : ℕ) (w lens : List 
         with-here = items-fit (o .done ++ (barOf a ∷ [])) (drop 1 rest) next (omega (arith, all-items, few-here, o .few, o .walking .start, short))
 
         -- what `push_bar` asks
-        pub onward-can : limit < 2 ^ 32 → CanPush write p n w lens (measureOf a) s counts₁ heads₁ keys₁
+        pub onward-can : limit < 2 ^ 32 → CanPush write p n w lens (measureOf a) s counts₁ heads₁ keys₁ leftovers₁
         onward-can l =
             record {
               some-bar = omega (arith, some-length);
@@ -179,6 +219,16 @@ module _ (write : Bool) (ds ws : List ℕ) (end limit p n : ℕ) (w lens : List 
                     o .written .many,
                     onward-counts,
                   );
+              leftovers-fit =
+                  λ e.
+                  omega (
+                    arith,
+                    leftovers-fit (o .done ++ (barOf a ∷ [])) (drop 1 rest) next e,
+                    leftovers-length p vs four-voices (o .done ++ (barOf a ∷ [])),
+                    length-append (o .done) (barOf a ∷ []),
+                    o .written .many,
+                    onward-leftovers,
+                  );
               room =
                   record {
                     heads-fit = λ e. omega (arith, with-here .heads-fit e, all-items, onward-heads);
@@ -187,22 +237,29 @@ module _ (write : Bool) (ds ws : List ℕ) (end limit p n : ℕ) (w lens : List 
                   };
             }
 
-        module _ {counts₂ heads₂ keys₂ : List ℕ} {r : Engraving}
-            (put : BarPut write p n w lens (measureOf a) s counts₁ heads₁ keys₁ counts₂ heads₂ keys₂ r) where
+        module _ {counts₂ heads₂ keys₂ leftovers₂ : List ℕ} {r : Engraving}
+            (put : BarPut write p n w lens (measureOf a) s counts₁ heads₁ keys₁ leftovers₁ counts₂ heads₂ keys₂ leftovers₂ r) where
           -- the walker's bar is written too
-          one-more : Written (o .done ++ (barOf a ∷ [])) counts₂ heads₂ keys₂ r
+          one-more : Written (o .done ++ (barOf a ∷ [])) counts₂ heads₂ keys₂ leftovers₂ r
           one-more =
               record {
                 many = put .bars ∙ sym (length-append (o .done) (barOf a ∷ []) ∙ omega (arith, o .written .many));
                 items = rw items-here (items-append so-far (o .written .items) (put .items));
                 counts = rw counts-here (put-append write (counts-fit (o .done) rest (o .whole)) (o .written .counts) (rw place at (put .counts)));
+                leftovers =
+                    rw leftovers-here
+                    (put-append write (leftovers-fit (o .done) rest (o .whole)) (o .written .leftovers) (rw left-place at (put .leftovers)));
               }
             where
               place : 4 * s .bars ≡ 0 + length (arraysOf (staffOf p vs (o .done)) .counts)
               place = omega (arith, counts-length p vs four-voices (o .done), o .written .many)
 
+              left-place : 4 * s .bars ≡ 0 + length (leftoversOf p vs (o .done))
+              left-place = omega (arith, leftovers-length p vs four-voices (o .done), o .written .many)
+
           -- another bar follows
-          pub onward-more : {a′ : Walker} → Settled ds ws (nextOf a) a′ → end < 2 ^ 48 → nextOf a .start < end → Onward counts₂ heads₂ keys₂ a′ r
+          pub onward-more : {a′ : Walker} → Settled ds ws (nextOf a) a′ → end < 2 ^ 48 → nextOf a .start < end
+              → Onward counts₂ heads₂ keys₂ leftovers₂ a′ r
           onward-more {a′} settled small later =
               let start : a′ .start ≡ a .start + barLength (a .p) (meterIn a) = settled .same .start in
               record {
@@ -218,13 +275,15 @@ module _ (write : Bool) (ds ws : List ℕ) (end limit p n : ℕ) (w lens : List 
               }
 
           -- it was the last
-          pub onward-last : end ≤ nextOf a .start → StaffPut write all (staffOf p vs all) counts₀ heads₀ keys₀ counts₂ heads₂ keys₂ r
+          pub onward-last : end ≤ nextOf a .start
+              → StaffPut write all (staffOf p vs all) (leftoversOf p vs all) counts₀ heads₀ keys₀ leftovers₀ counts₂ heads₂ keys₂ leftovers₂ r
           onward-last last =
               let is : o .done ++ (barOf a ∷ []) ≡ all = ap (λ (l : List Bar). o .done ++ l) (sym (ahead-last (o .walking .bar) end more last)) ∙ o .whole in
               finished (rw is at one-more)
 
       -- the limit is reached
-      pub onward-end : limit ≤ s .bars → StaffPut write all (staffOf p vs all) counts₀ heads₀ keys₀ counts₁ heads₁ keys₁ s
+      pub onward-end : limit ≤ s .bars
+          → StaffPut write all (staffOf p vs all) (leftoversOf p vs all) counts₀ heads₀ keys₀ leftovers₀ counts₁ heads₁ keys₁ leftovers₁ s
       onward-end h =
           let is : o .done ≡ all = sym (append-nil (o .done)) ∙ ap (λ (l : List Bar). o .done ++ l) (sym (ahead-end ds ws a end h)) ∙ o .whole in
           finished (rw is at (o .written))

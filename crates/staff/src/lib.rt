@@ -1,11 +1,12 @@
-// Section 7: the staff along the bars. In each bar the four voices are written as items, with a count for each; the bars are walked, not stored.
+// Section 7: the staff along the bars. In each bar the four voices are written as items, with a count and a leftover for each; the bars are walked,
+// not stored.
 ghost use Prim.Native.Nat.{_+_, _-_, _*_, _<_, _^_};
 ghost use mathlib.Core.Bool.{true};
 ghost use mathlib.Core.List.{[], _∷_};
 ghost use mathlib.Core.Path.{_≡_};
 ghost use lib.Dec.{eqb};
 ghost use lib.ListN.{length};
-ghost use Rattle.rules.specs.Staff.{staffOf};
+ghost use Rattle.rules.specs.Staff.{staffOf, leftoversOf};
 ghost use Rattle.bar_walk.specs.Walk.{CanWalk};
 ghost use Rattle.items.specs.Putting.{Put};
 ghost use Rattle.items.specs.Writing.{quarter, IsTable};
@@ -23,13 +24,13 @@ pub struct Engraving {
     pub nexts: [usize; 4],
 }
 
-// Writes a voice's item count.
-fn put_count(write: bool, counts: &mut [u32], at: usize, items: usize)
-    requires { ⌜ (write ≡ true → at < length (now counts)) × (items < 2 ^ 32) ⌝ }
-    ensures { λ _. ⌜ Put write (items ∷ []) at (now (counts .entry)) (now (counts .exit)) ⌝ }
+// Writes a number of a voice: its item count, or its leftover.
+fn put_number(write: bool, out: &mut [u32], at: usize, number: u64)
+    requires { ⌜ (write ≡ true → at < length (now out)) × (number < 2 ^ 32) ⌝ }
+    ensures { λ _. ⌜ Put write (number ∷ []) at (now (out .entry)) (now (out .exit)) ⌝ }
 {
     if write {
-        counts[at] = items as u32;
+        out[at] = number as u32;
     }
 }
 
@@ -39,7 +40,7 @@ pub struct Reached {
     pub next: usize,
 }
 
-// Voice v in the bar, and its count at a place.
+// Voice v in the bar, and its count and its leftover at a place.
 fn push_counted(
     write: bool,
     values: &[u64; 18],
@@ -53,15 +54,18 @@ fn push_counted(
     place: usize,
     heads: &mut [u32],
     keys: &mut [u64],
+    leftovers: &mut [u32],
     from: usize,
 ) -> Reached
     requires { ⌜ IsTable (now values) × VoiceHeld n (now work) v len
-        × CanCount write (quarter (now values)) (eqb v 0) (voiceOf n (now work) v len) next bar place from (now counts) (now heads) (now keys) ⌝ }
+        × CanCount write (quarter (now values)) (eqb v 0) (voiceOf n (now work) v len) next bar place from
+        (now counts) (now heads) (now keys) (now leftovers) ⌝ }
     ensures { λ r. ⌜ Counted write (quarter (now (values .entry))) (eqb v 0) (voiceOf n (now (work .entry)) v len) bar place from
-        (now (counts .entry)) (now (heads .entry)) (now (keys .entry)) (now (counts .exit)) (now (heads .exit)) (now (keys .exit)) r ⌝ }
+        (now (counts .entry)) (now (heads .entry)) (now (keys .entry)) (now (leftovers .entry))
+        (now (counts .exit)) (now (heads .exit)) (now (keys .exit)) (now (leftovers .exit)) r ⌝ }
 {
     let first = bar_voice::skip_past(work, n, v, len, next, bar.start);
-    let at = bar_voice::push_voice(
+    let pushed = bar_voice::push_voice(
         write,
         values,
         work,
@@ -74,11 +78,15 @@ fn push_counted(
         keys,
         from,
     );
-    put_count(write, counts, place, at - from);
-    Reached { at, next: first }
+    put_number(write, counts, place, (pushed.at - from) as u64);
+    put_number(write, leftovers, place, pushed.left);
+    Reached {
+        at: pushed.at,
+        next: first,
+    }
 }
 
-// The bar's four voices: their items, and a count for each. The answer is the place behind the items; the next chords are
+// The bar's four voices: their items, and a count and a leftover for each. The answer is the place behind the items; the next chords are
 // written in place, since a copy right after a store is slow.
 fn push_bar(
     write: bool,
@@ -93,11 +101,14 @@ fn push_bar(
     counts: &mut [u32],
     heads: &mut [u32],
     keys: &mut [u64],
+    leftovers: &mut [u32],
 ) -> usize
     requires { ⌜ IsTable (now values) × VoicesHeld n (now work) lens
-        × CanPush write (quarter (now values)) n (now work) lens bar (engraving bars items (now nexts)) (now counts) (now heads) (now keys) ⌝ }
+        × CanPush write (quarter (now values)) n (now work) lens bar (engraving bars items (now nexts))
+        (now counts) (now heads) (now keys) (now leftovers) ⌝ }
     ensures { λ r. ⌜ BarPut write (quarter (now (values .entry))) n (now (work .entry)) lens bar (engraving bars items (now (nexts .entry)))
-        (now (counts .entry)) (now (heads .entry)) (now (keys .entry)) (now (counts .exit)) (now (heads .exit)) (now (keys .exit))
+        (now (counts .entry)) (now (heads .entry)) (now (keys .entry)) (now (leftovers .entry))
+        (now (counts .exit)) (now (heads .exit)) (now (keys .exit)) (now (leftovers .exit))
         (engraving (bars + 1) r (now (nexts .exit))) ⌝ }
 {
     let mut at = items;
@@ -117,6 +128,7 @@ fn push_bar(
             place,
             heads,
             keys,
+            leftovers,
             at,
         );
         nexts[v] = r.next;
@@ -142,14 +154,19 @@ pub fn transcribe_track(
     counts: &mut [u32],
     heads: &mut [u32],
     keys: &mut [u64],
+    leftovers: &mut [u32],
 ) -> Engraving
     requires { ⌜ IsTable (now values) × CanWalk (now deltas) (now words) (quarter (now values)) end × («max_bars» < 2 ^ 32) × VoicesHeld n (now work) lens
         × StaffRoom write (staffOf (quarter (now values)) (voicesOf n (now work) lens) (barsOf (now deltas) (now words) (quarter (now values)) end «max_bars»))
-        (now counts) (now heads) (now keys) ⌝ }
+        (leftoversOf (quarter (now values)) (voicesOf n (now work) lens) (barsOf (now deltas) (now words) (quarter (now values)) end «max_bars»))
+        (now counts) (now heads) (now keys) (now leftovers) ⌝ }
     ensures { λ r. ⌜ StaffPut write (barsOf (now (deltas .entry)) (now (words .entry)) (quarter (now (values .entry))) end «max_bars»)
         (staffOf (quarter (now (values .entry))) (voicesOf n (now (work .entry)) lens)
         (barsOf (now (deltas .entry)) (now (words .entry)) (quarter (now (values .entry))) end «max_bars»))
-        (now (counts .entry)) (now (heads .entry)) (now (keys .entry)) (now (counts .exit)) (now (heads .exit)) (now (keys .exit)) r ⌝ }
+        (leftoversOf (quarter (now (values .entry))) (voicesOf n (now (work .entry)) lens)
+        (barsOf (now (deltas .entry)) (now (words .entry)) (quarter (now (values .entry))) end «max_bars»))
+        (now (counts .entry)) (now (heads .entry)) (now (keys .entry)) (now (leftovers .entry))
+        (now (counts .exit)) (now (heads .exit)) (now (keys .exit)) (now (leftovers .exit)) r ⌝ }
 {
     let mut w = bar_walk::first_bar(values[9], deltas, words);
     let mut bars = 0;
@@ -173,6 +190,7 @@ pub fn transcribe_track(
             counts,
             heads,
             keys,
+            leftovers,
         );
         bars += 1;
         w = w.next_bar();

@@ -11,12 +11,13 @@ use Rattle.rules.specs.Items.{headOf, itemsOf}
 use Rattle.rules.specs.Voices.{voices}
 use Rattle.rules.specs.Staff.{partStaff}
 use Rattle.rules.specs.Refusals.{given, partRefusals, workNeeded}
-use Rattle.rules.specs.Calls.{partTrack, partNotes, partSize, partArrays, engraveCall}
+use Rattle.rules.specs.Calls.{partTrack, partNotes, partSize, partArrays, partLeftovers, partLists, engraveCall}
 use Rattle.laws.specs.Admitted.{Passes}
 use Rattle.laws.proofs.Lists.{All-append}
 use Rattle.laws.proofs.Refusals.{passes-given}
 use Rattle.laws.proofs.VoiceLaws.{voices-four}
 use Rattle.items.proofs.Appending.{keys-length}
+use Rattle.laws.proofs.Leftovers.{leftovers-length}
 use Rattle.staff.proofs.StaffSizes.{counts-length}
 
 module _ (x : Piece) (k : ℕ) where
@@ -29,17 +30,25 @@ module _ (x : Piece) (k : ℕ) where
   pub keys-used : 2 * partSize x k .items ≡ length (partArrays x k .keys)
   keys-used = sym (keys-length (itemsOf (partStaff x (partTrack x k))))
 
-  pub engraves-part : (counts heads keys work : ℕ) → Passes (partRefusals x k) → workNeeded x ≤ work → 4 * partSize x k .bars ≤ counts
-      → partSize x k .items ≤ heads → 2 * partSize x k .items ≤ keys → engraveCall x k counts heads keys work ≡ given (partArrays x k)
-  engraves-part counts heads keys work part enough cs hs ks =
-      passes-given _ (partArrays x k)
+  pub leftovers-used : 4 * partSize x k .bars ≡ length (partLeftovers x k)
+  leftovers-used =
+      sym (leftovers-length (ticksPerQuarter x) (voices (grid (ticksPerQuarter x) (partNotes x k)) (partNotes x k)) (voices-four _ _) (bars x))
+
+  pub engraves-part : (counts heads keys leftovers work : ℕ) → Passes (partRefusals x k) → workNeeded x ≤ work → 4 * partSize x k .bars ≤ counts
+      → partSize x k .items ≤ heads → 2 * partSize x k .items ≤ keys → 4 * partSize x k .bars ≤ leftovers
+      → engraveCall x k counts heads keys leftovers work ≡ given (partLists x k)
+  engraves-part counts heads keys leftovers work part enough cs hs ks ls =
+      passes-given _ (partLists x k)
       (All-append _ (partRefusals x k) _ part (
         le-ltb work (workNeeded x) enough,
         (
           le-ltb counts (length (partArrays x k .counts)) (omega (arith, counts-used, cs)),
           (
             le-ltb heads (length (partArrays x k .heads)) (omega (arith, heads-used, hs)),
-            (le-ltb keys (length (partArrays x k .keys)) (omega (arith, keys-used, ks)), tt),
+            (
+              le-ltb keys (length (partArrays x k .keys)) (omega (arith, keys-used, ks)),
+              (le-ltb leftovers (length (partLeftovers x k)) (omega (arith, leftovers-used, ls)), tt),
+            ),
           ),
         ),
       ))

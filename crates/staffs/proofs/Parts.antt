@@ -6,12 +6,10 @@ use native.Mathlib.Omega.{arith}
 use lib.ListN.{length}
 use Rattle.rules.specs.Lists.{cleared}
 use Rattle.rules.specs.Bars.{Bar, bars, mostBars}
-use Rattle.rules.specs.Calls.{StaffSize, partSize, partArrays, staffSizeCall, engraveCall, EngraveCalled}
-use Rattle.rules.specs.Items.{StaffArrays, arraysOf}
+use Rattle.rules.specs.Calls.{StaffSize, EngravedLists, partSize, partLists, staffSizeCall, engraveCall, EngraveCalled}
 use Rattle.rules.specs.Piece.{Piece, ticksPerQuarter}
 use Rattle.rules.specs.RawNotes.{rawNotes, mostNotes}
 use Rattle.rules.specs.Refusals.{Result, Refusal, refused, given, unless, asItIs, partRefusals, workFor, shortWork}
-use Rattle.rules.specs.Staff.{staffOf}
 use Rattle.rules.specs.Voices.{Chord}
 use Rattle.laws.proofs.Refusals.{ticks-per-quarter-positive}
 use Rattle.track_events.specs.Track.{eventsOf, stretch}
@@ -25,7 +23,7 @@ use Rattle.bar_source.specs.Source.{IsBarSource}
 use Rattle.bar_source.proofs.Sources.{positive, walked, bars-are}
 use Rattle.staff.specs.Bars.{voicesOf, VoicesHeld}
 use Rattle.staff.specs.Staffs.{barsOf}
-use Rattle.engraver.specs.Sizes.{sizeBy, outcome, Outputs}
+use Rattle.engraver.specs.Sizes.{sizeBy, listsBy, outcome, Outputs}
 use Rattle.staffs.specs.declared.PartVoices.{PartVoices}
 use Rattle.staffs.specs.Parts.{HasTrack, TrackVoices, PartReady, PartVoiced}
 
@@ -37,7 +35,7 @@ module _ (x : Piece) (k : ℕ) {e : OpenedPart} (opened : PartOpened x k e) wher
   not-opened h same =
       record {
         no-size = λ n. refuses (partRefusals x k) (opened .number) h _ _ ∙ ap refused (sym same);
-        no-staff = λ n counts heads keys. refuses (partRefusals x k) (opened .number) h _ _ ∙ ap refused (sym same);
+        no-staff = λ n counts heads keys leftovers. refuses (partRefusals x k) (opened .number) h _ _ ∙ ap refused (sym same);
         ready = λ z. absurd (h (sym same ∙ z));
       }
 
@@ -49,7 +47,7 @@ module _ (x : Piece) (k : ℕ) {e : OpenedPart} (opened : PartOpened x k e) wher
         record {
           no-size = λ _. work-short x (partRefusals x k) passed n room most _ _ h ∙ ap refused (sym same);
           no-staff =
-              λ _ counts heads keys.
+              λ _ counts heads keys leftovers.
               work-short x (partRefusals x k) passed n room most _ _ h ∙ ap refused (sym same);
           ready = λ i. absurd (omega (arith, i, same));
         }
@@ -111,30 +109,38 @@ module _ {x : Piece} {k room : ℕ} {w : List ℕ} {r : PartVoices} (ready : Par
     size-is : sizeBy (s .p) bs vs ≡ partSize x k
     size-is i = sizeBy (is .quarter i) (bars-here i) (ready .voices .are i)
 
-    arrays-are : arraysOf (staffOf (s .p) vs bs) ≡ partArrays x k
-    arrays-are i = arraysOf (staffOf (is .quarter i) (ready .voices .are i) (bars-here i))
+    lists-are : listsBy (s .p) bs vs ≡ partLists x k
+    lists-are i = listsBy (is .quarter i) (bars-here i) (ready .voices .are i)
 
     pub size-given : {a : StaffSize} → a ≡ sizeBy (s .p) bs vs → given a ≡ staffSizeCall x k room
     unfolding unless
     size-given e = ap given (e ∙ size-is) ∙ sym (passes [] (partSize x k))
 
-    pub staff-given : {counts₀ heads₀ keys₀ counts₁ heads₁ keys₁ : List ℕ} {a : Result StaffSize}
-        → Outputs (sizeBy (s .p) bs vs) (outcome (arraysOf (staffOf (s .p) vs bs)) (length counts₀) (length heads₀) (length keys₀))
-        counts₀ heads₀ keys₀ counts₁ heads₁ keys₁ a
-        → Outputs (partSize x k) (engraveCall x k (length counts₀) (length heads₀) (length keys₀) room) counts₀ heads₀ keys₀ counts₁ heads₁ keys₁ a
-    staff-given {counts₀} {heads₀} {keys₀} {counts₁} {heads₁} {keys₁} {a} o =
-        subst (λ (y : Result StaffArrays). Outputs (partSize x k) y counts₀ heads₀ keys₀ counts₁ heads₁ keys₁ a) (sym (passes _ (partArrays x k)))
-        (subst {A = StaffSize × StaffArrays}
-        (λ y. Outputs (y .0) (outcome (y .1) (length counts₀) (length heads₀) (length keys₀)) counts₀ heads₀ keys₀ counts₁ heads₁ keys₁ a)
-        (λ i. (size-is i, arrays-are i)) o)
+    result-is : (counts heads keys leftovers : ℕ)
+        → outcome (listsBy (s .p) bs vs) counts heads keys leftovers ≡ engraveCall x k counts heads keys leftovers room
+    result-is counts heads keys leftovers =
+        ap (λ (y : EngravedLists). outcome y counts heads keys leftovers) lists-are ∙ sym (passes _ (partLists x k))
+
+    pub staff-given : {counts₀ heads₀ keys₀ leftovers₀ counts₁ heads₁ keys₁ leftovers₁ : List ℕ} {a : Result StaffSize}
+        → Outputs (sizeBy (s .p) bs vs) (outcome (listsBy (s .p) bs vs) (length counts₀) (length heads₀) (length keys₀) (length leftovers₀))
+        counts₀ heads₀ keys₀ leftovers₀ counts₁ heads₁ keys₁ leftovers₁ a
+        → Outputs (partSize x k) (engraveCall x k (length counts₀) (length heads₀) (length keys₀) (length leftovers₀) room)
+        counts₀ heads₀ keys₀ leftovers₀ counts₁ heads₁ keys₁ leftovers₁ a
+    staff-given {counts₀} {heads₀} {keys₀} {leftovers₀} {counts₁} {heads₁} {keys₁} {leftovers₁} {a} =
+        subst {A = StaffSize × Result EngravedLists}
+        (λ y. Outputs (y .0) (y .1) counts₀ heads₀ keys₀ leftovers₀ counts₁ heads₁ keys₁ leftovers₁ a)
+        (λ i. (size-is i, result-is (length counts₀) (length heads₀) (length keys₀) (length leftovers₀) i))
 
 -- ---- the calls
 
-module _ {size : StaffSize} {o : Result StaffArrays} {counts heads keys w w₁ : List ℕ} (zeroed : w₁ ≡ cleared w) where
-  pub staff-called : {counts₁ heads₁ keys₁ : List ℕ} {a : Result StaffSize} → Outputs size o counts heads keys counts₁ heads₁ keys₁ a
-      → EngraveCalled asItIs size o counts heads keys w a counts₁ heads₁ keys₁ w₁
-  staff-called p = record { answered = p .answered; counts = p .counts; heads = p .heads; keys = p .keys; work = zeroed }
+module _ {size : StaffSize} {o : Result EngravedLists} {counts heads keys leftovers w w₁ : List ℕ} (zeroed : w₁ ≡ cleared w) where
+  pub staff-called : {counts₁ heads₁ keys₁ leftovers₁ : List ℕ} {a : Result StaffSize}
+      → Outputs size o counts heads keys leftovers counts₁ heads₁ keys₁ leftovers₁ a
+      → EngraveCalled asItIs size o counts heads keys leftovers w a counts₁ heads₁ keys₁ leftovers₁ w₁
+  staff-called p =
+      record { answered = p .answered; counts = p .counts; heads = p .heads; keys = p .keys; leftovers = p .leftovers; work = zeroed }
 
   -- a refused call leaves its outputs
-  pub staff-refused : (n : ℕ) → o ≡ refused n → EngraveCalled asItIs size o counts heads keys w (refused n) counts heads keys w₁
-  staff-refused n e = record { answered = rw e; counts = rw e; heads = rw e; keys = rw e; work = zeroed }
+  pub staff-refused : (n : ℕ) → o ≡ refused n
+      → EngraveCalled asItIs size o counts heads keys leftovers w (refused n) counts heads keys leftovers w₁
+  staff-refused n e = record { answered = rw e; counts = rw e; heads = rw e; keys = rw e; leftovers = rw e; work = zeroed }

@@ -45,5 +45,5 @@ pub record PartReady (x : Piece) (k room : ℕ) (w : List ℕ) (r : PartVoices) 
 -- the part is ready, or both calls refuse it by its number, whatever their outputs
 pub record PartVoiced (x : Piece) (k room : ℕ) (w : List ℕ) (r : PartVoices) : Type 0 where
   pub no-size : (r .number ≡ 0 → ⊥) → staffSizeCall x k room ≡ refused (r .number)
-  pub no-staff : (r .number ≡ 0 → ⊥) → (counts heads keys : ℕ) → engraveCall x k counts heads keys room ≡ refused (r .number)
+  pub no-staff : (r .number ≡ 0 → ⊥) → (counts heads keys leftovers : ℕ) → engraveCall x k counts heads keys leftovers room ≡ refused (r .number)
   pub ready : r .number ≡ 0 → PartReady x k room w r

@@ -117,7 +117,8 @@ fn answer(written: Written) -> StaffAnswer
     StaffAnswer::Refused(8)
 }
 
-// A part's staff: four counts a bar, and a head and two words of keys an item. Refusals 1 to 8.
+// A part's staff: four counts a bar, and a head and two words of keys an item; and four leftovers a bar, the ticks of each voice that no item
+// took. Refusals 1 to 8.
 pub fn engrave(
     sizes: &[u32],
     deltas: &[u32],
@@ -126,14 +127,16 @@ pub fn engrave(
     counts: &mut [u32],
     heads: &mut [u32],
     keys: &mut [u64],
+    leftovers: &mut [u32],
     work: &mut [u64],
 ) -> StaffAnswer
     ensures { λ r. ⌜ EngraveCalled asItIs
         (partSize (piece (now (sizes .entry)) (now (deltas .entry)) (now (words .entry))) part)
         (engraveCall (piece (now (sizes .entry)) (now (deltas .entry)) (now (words .entry))) part
-        (length (now (counts .entry))) (length (now (heads .entry))) (length (now (keys .entry))) (length (now (work .entry))))
-        (now (counts .entry)) (now (heads .entry)) (now (keys .entry)) (now (work .entry))
-        (answerOf r) (now (counts .exit)) (now (heads .exit)) (now (keys .exit)) (now (work .exit)) ⌝ }
+        (length (now (counts .entry))) (length (now (heads .entry))) (length (now (keys .entry))) (length (now (leftovers .entry)))
+        (length (now (work .entry))))
+        (now (counts .entry)) (now (heads .entry)) (now (keys .entry)) (now (leftovers .entry)) (now (work .entry))
+        (answerOf r) (now (counts .exit)) (now (heads .exit)) (now (keys .exit)) (now (leftovers .exit)) (now (work .exit)) ⌝ }
 {
     let voices = part_voices(sizes, deltas, words, part, work);
     if voices.number != 0 {
@@ -156,6 +159,7 @@ pub fn engrave(
         counts,
         heads,
         keys,
+        leftovers,
     );
     basics::clear(work); // and not the outputs
     answer(written)

@@ -6,6 +6,8 @@ use mathlib.Core.Path.{_≡_}
 use lib.Dec.{ltb, leb}
 use lib.ListN.{length, getD, take, drop}
 use Rattle.rules.specs.Values.{Value, ticksOf, isWhole, staffCodes, splitSpan}
+use Rattle.values.specs.declared.Count.{Count}
+use Rattle.values.specs.declared.Split.{Split}
 
 -- the ticks of code c with d dots; 0 where they are no whole number
 abbrev pub entryOf : ℕ → ℕ → ℕ → ℕ
@@ -39,7 +41,13 @@ pub record Room (table : List ℕ) (t from size : ℕ) : Type 0 where
   pub is : table ≡ tableOf p
   pub room : from + length (splitSpan p t .pieces) ≤ size
 
--- The pieces of t ticks stand in the array from `from` up to r; all else in it is kept.
-pub record Spanned (p t from bits : ℕ) (out₀ out : List ℕ) (r : ℕ) : Type 0 where
-  pub next : r ≡ from + length (splitSpan p t .pieces)
-  pub is : out ≡ take from out₀ ++ spanWords p t bits ++ drop r out₀
+-- what t ticks take, and leave
+pub record Counts (p t : ℕ) (r : Count) : Type 0 where
+  pub pieces : r .pieces ≡ length (splitSpan p t .pieces)
+  pub left : r .left ≡ splitSpan p t .left
+
+-- The pieces of t ticks stand in the array from `from` up to the place that is answered; all else in it is kept. What they leave is answered too.
+pub record Spanned (p t from bits : ℕ) (out₀ out : List ℕ) (r : Split) : Type 0 where
+  pub next : r .at ≡ from + length (splitSpan p t .pieces)
+  pub is : out ≡ take from out₀ ++ spanWords p t bits ++ drop (r .at) out₀
+  pub left : r .left ≡ splitSpan p t .left

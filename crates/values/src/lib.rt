@@ -4,8 +4,7 @@ ghost use mathlib.Core.Bool.{_&&_};
 ghost use mathlib.Core.Path.{_≡_};
 ghost use lib.Dec.{leb, ltb};
 ghost use lib.ListN.{length};
-ghost use Rattle.rules.specs.Values.{splitSpan};
-ghost use Rattle.values.specs.Table.{entryOf, tableOf, Skips, Room, Spanned};
+ghost use Rattle.values.specs.Table.{entryOf, tableOf, Skips, Room, Counts, Spanned};
 
 fn power_of_two(k: u64) -> u64
     requires { ⌜ k < 64 ⌝ }
@@ -59,25 +58,31 @@ fn first_entry(values: &[u64; 18], ticks: u64) -> usize
     0
 }
 
-// How many pieces a span takes: a division for each entry that fits, however long it is.
-pub fn count_pieces(values: &[u64; 18], ticks: u64) -> u64
-    ensures { λ r. ⌜ ((p : ℕ) → 0 < p → now (values .entry) ≡ tableOf p → r ≡ length (splitSpan p ticks .pieces)) ⌝ }
+// How many pieces a span takes, and the ticks that none of them takes.
+pub struct Count {
+    pub pieces: u64,
+    pub left: u64,
+}
+
+// The count of a span: a division for each entry that fits, however long it is.
+pub fn count_pieces(values: &[u64; 18], ticks: u64) -> Count
+    ensures { λ r. ⌜ ((p : ℕ) → 0 < p → now (values .entry) ≡ tableOf p → Counts p ticks r) ⌝ }
 {
-    let mut count: u64 = 0;
+    let mut pieces: u64 = 0;
     let mut left = ticks;
     let mut i: usize = first_entry(values, ticks);
     while i < 18 {
         if left == 0 {
-            return count;
+            return Count { pieces, left };
         }
         let length = values[i];
         if fits(length, left) {
-            count += left / length;
+            pieces += left / length;
             left %= length;
         }
         i += 1;
     }
-    count
+    Count { pieces, left }
 }
 
 // Whether an entry is a value, and fits.
@@ -95,8 +100,14 @@ fn word(i: usize, bits: u32) -> u32
     (i / 2) as u32 + (1 - i % 2) as u32 * 16 + bits
 }
 
-// Writes a span's pieces from out[from] on, again and again the longest that fits, and answers the place behind them.
-pub fn split_span(values: &[u64; 18], ticks: u64, out: &mut [u32], from: usize, bits: u32) -> usize
+// A span that was split: the place behind its pieces, and the ticks that none of them took.
+pub struct Split {
+    pub at: usize,
+    pub left: u64,
+}
+
+// Writes a span's pieces from out[from] on, again and again the longest that fits.
+pub fn split_span(values: &[u64; 18], ticks: u64, out: &mut [u32], from: usize, bits: u32) -> Split
     requires { ⌜ Room (now values) ticks from (length (now out)) × (bits < 2 ^ 16) ⌝ }
     ensures { λ r. ⌜ ((p : ℕ) → 0 < p → now (values .entry) ≡ tableOf p
         → Spanned p ticks from bits (now (out .entry)) (now (out .exit)) r) ⌝ }
@@ -106,7 +117,7 @@ pub fn split_span(values: &[u64; 18], ticks: u64, out: &mut [u32], from: usize, 
     let mut i: usize = first_entry(values, ticks);
     while i < 18 {
         if left == 0 {
-            return at;
+            return Split { at, left };
         }
         let length = values[i];
         if fits(length, left) {
@@ -117,5 +128,5 @@ pub fn split_span(values: &[u64; 18], ticks: u64, out: &mut [u32], from: usize, 
             i += 1;
         }
     }
-    at
+    Split { at, left }
 }

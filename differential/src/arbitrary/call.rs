@@ -72,7 +72,7 @@ impl Call {
             Self::Head | Self::PartCount | Self::PartHead => 0,
             Self::StaffSize | Self::ProofRead => 0,
             Self::Bars | Self::Automation | Self::Diagnostics => 2,
-            Self::Engrave => 3,
+            Self::Engrave => 4,
         }
     }
 
@@ -92,7 +92,8 @@ impl Call {
             Self::Bars | Self::Diagnostics => vec![times(fields[0], 1); 2],
             Self::Engrave => {
                 let (bars, items) = (fields[0], fields[1]);
-                vec![times(bars, 4), times(items, 1), times(items, 2)]
+                let (four, two) = (times(bars, 4), times(items, 2));
+                vec![four, times(items, 1), two, four]
             }
             Self::Automation => {
                 let sum = fields.iter().fold(0, |sum: u64, n| sum.saturating_add(*n));
@@ -147,11 +148,16 @@ fn bars(given: &Given, rooms: &Rooms) -> Answered {
 
 fn engrave(given: &Given, part: u32, rooms: &Rooms, work: &mut Lent<u64>) -> Answered {
     let (mut counts, mut heads, mut keys) = (rooms.lent(0), rooms.lent(1), rooms.lent(2));
-    let (c, h, k) = (&mut counts, &mut heads, &mut keys);
-    let answer = library::engrave(given, part, c, h, k, work);
-    let outputs = [Output::Words(counts), Output::Words(heads)];
-    let outputs = outputs.into_iter().chain([Output::Longs(keys)]);
-    sized(answer, outputs.collect())
+    let mut leftovers = rooms.lent(3);
+    let (c, h, k, l) = (&mut counts, &mut heads, &mut keys, &mut leftovers);
+    let answer = library::engrave(given, part, c, h, k, l, work);
+    let outputs = vec![
+        Output::Words(counts),
+        Output::Words(heads),
+        Output::Longs(keys),
+        Output::Words(leftovers),
+    ];
+    sized(answer, outputs)
 }
 
 fn proof_read(given: &Given, part: u32, staff: &GivenStaff, work: &mut Lent<u64>) -> Answered {

@@ -15,12 +15,14 @@ fn answered() -> Outcome {
             Output::Words(Lent::new(6)),
             Output::Words(Lent::new(3)),
             Output::Longs(Lent::new(4)),
+            Output::Words(Lent::new(5)),
         ],
         work: Lent::new(9),
     };
     words(&mut outcome, 0).elements_mut()[..4].fill(1);
     words(&mut outcome, 1).elements_mut()[..2].fill(1);
     keys(&mut outcome).elements_mut().fill(1);
+    words(&mut outcome, 3).elements_mut()[..4].fill(1);
     outcome.work.elements_mut().fill(0);
     outcome
 }
@@ -31,6 +33,7 @@ fn refused(number: u32) -> Outcome {
         Output::Words(Lent::new(6)),
         Output::Words(Lent::new(0)),
         Output::Longs(Lent::new(4)),
+        Output::Words(Lent::new(3)),
     ];
     let fields = vec![0, 0];
     Outcome {
@@ -109,6 +112,26 @@ fn outputs() {
         |it| words(it, 1).elements_mut()[2] = 0,
         "output 1: element 2",
     );
+    reported(
+        refused(8),
+        |it| words(it, 3).elements_mut()[0] = 0,
+        "output 3: element 0",
+    );
+    reported(
+        answered(),
+        |it| words(it, 3).elements_mut()[4] = 0,
+        "output 3: element 4",
+    );
+}
+
+/// Room for less than is answered: 4 × bars are due.
+#[test]
+fn leftovers_room() {
+    reported(
+        answered(),
+        |it| it.outputs[3] = Output::Words(Lent::new(3)),
+        "output 3: 4 elements, where 3 were lent",
+    );
 }
 
 #[test]
@@ -138,6 +161,11 @@ fn canaries() {
             refused(3),
             |it| keys(it).spoil_canary(end),
             "output 2: written beside",
+        );
+        reported(
+            answered(),
+            |it| words(it, 3).spoil_canary(end),
+            "output 3: written beside",
         );
         reported(
             answered(),

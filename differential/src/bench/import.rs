@@ -14,6 +14,7 @@ pub struct Import {
     counts: Lent<u32>,
     heads: Lent<u32>,
     keys: Lent<u64>,
+    leftovers: Lent<u32>,
     ticks: Lent<u64>,
     words: Lent<u32>,
     diagnostics: [Lent<u64>; 2],
@@ -35,6 +36,7 @@ impl Import {
             counts: Lent::new(4 * MOST_BARS),
             heads: Lent::new(items),
             keys: Lent::new(2 * items),
+            leftovers: Lent::new(4 * MOST_BARS),
             ticks: Lent::new(events),
             words: Lent::new(events),
             diagnostics: [events + 1; 2].map(Lent::new),
@@ -63,6 +65,7 @@ impl Import {
             &mut self.counts,
             &mut self.heads,
             &mut self.keys,
+            &mut self.leftovers,
             &mut self.work,
         );
         assert_eq!(size.number, 0);

@@ -69,7 +69,7 @@ fn imported(case: &Case, import: &Import) -> Checked {
     for (number, part) in (0..).zip(&import.parts) {
         let here = |what| format!("part {number}, {what}");
         heads::part(case, number, Ok(part)).map_err(here)?;
-        staffs::answered(case, number, &part.staff).map_err(here)?;
+        staffs::answered(case, number, part).map_err(here)?;
         automation::answered(case, number, &part.automation).map_err(here)?;
     }
     let count = import.parts.len() as u32;

@@ -1,40 +1,43 @@
-//! Staff size and staff of one part.
+//! Staff size, staff and leftovers of one part.
 
 use super::{Case, Wanted, number, rooms};
-use crate::answers::{Measure, Spelled};
+use crate::answers::{Part, Spelled};
 use crate::checked::{Checked, same};
 use crate::library::{self, Lent, StaffSize};
 use crate::{packed, spelling};
 
-/// A staff, and how the reference spells each item's keys.
+/// A staff, its leftovers, and how the reference spells each item's keys.
 struct Staff {
     arrays: packed::Staff,
+    leftovers: Vec<u32>,
     spelled: Vec<Vec<Spelled>>,
 }
 
 impl Staff {
-    fn of(measures: &[Measure]) -> Self {
-        let items = measures.iter().flatten().flatten();
+    fn of(part: &Part) -> Self {
+        let items = part.staff.iter().flatten().flatten();
         Self {
-            arrays: packed::staff(measures),
+            arrays: packed::staff(&part.staff),
+            leftovers: packed::leftovers(&part.leftovers),
             spelled: items.map(|item| item.spelled.clone()).collect(),
         }
     }
 }
 
-pub fn answered(case: &Case, part: u32, measures: &[Measure]) -> Checked {
-    let wanted = Staff::of(measures);
+pub fn answered(case: &Case, number: u32, part: &Part) -> Checked {
+    let wanted = Staff::of(part);
     let packed::Staff {
         counts,
         heads,
         keys,
     } = &wanted.arrays;
     rooms(case, [case.work], &wanted, |[work], wanted| {
-        size(case, part, work, wanted)
+        size(case, number, work, wanted)
     })?;
-    let needed = [counts.len(), heads.len(), keys.len(), case.work];
+    let leftovers = wanted.leftovers.len();
+    let needed = [counts.len(), heads.len(), keys.len(), leftovers, case.work];
     rooms(case, needed, &wanted, |rooms, wanted| {
-        engrave(case, part, rooms, wanted)
+        engrave(case, number, rooms, wanted)
     })
 }
 
@@ -42,9 +45,9 @@ pub fn answered(case: &Case, part: u32, measures: &[Measure]) -> Checked {
 pub fn refused(case: &Case, part: u32, number: u32) -> Checked {
     for work in [0, 9, case.work + 1] {
         size(case, part, work, Err(number))?;
-        engrave(case, part, [5, 2, 3, work], Err(number))?;
+        engrave(case, part, [5, 2, 3, 6, work], Err(number))?;
     }
-    engrave(case, part, [0, 0, 0, case.work], Err(number))
+    engrave(case, part, [0, 0, 0, 0, case.work], Err(number))
 }
 
 fn size_of(wanted: Wanted<Staff>) -> StaffSize {
@@ -62,30 +65,34 @@ fn size(case: &Case, part: u32, work: usize, wanted: Wanted<Staff>) -> Checked {
     work.cleared("work after staff size")
 }
 
-fn engrave(case: &Case, part: u32, rooms: [usize; 4], wanted: Wanted<Staff>) -> Checked {
+fn engrave(case: &Case, part: u32, rooms: [usize; 5], wanted: Wanted<Staff>) -> Checked {
     let (mut counts, mut heads) = (Lent::new(rooms[0]), Lent::new(rooms[1]));
-    let (mut keys, mut work) = (Lent::new(rooms[2]), Lent::new(rooms[3]));
+    let (mut keys, mut leftovers) = (Lent::new(rooms[2]), Lent::new(rooms[3]));
+    let mut work = Lent::new(rooms[4]);
     let answer = library::engrave(
         &case.given,
         part,
         &mut counts,
         &mut heads,
         &mut keys,
+        &mut leftovers,
         &mut work,
     );
     same("staff", answer, size_of(wanted))?;
     work.cleared("work after engraving")?;
     match wanted {
-        Ok(Staff { arrays, spelled }) => {
-            counts.holds("item counts", &arrays.counts)?;
-            heads.holds("item heads", &arrays.heads)?;
-            keys.holds("item keys", &arrays.keys)?;
-            spellings(keys.elements(), spelled)
+        Ok(staff) => {
+            counts.holds("item counts", &staff.arrays.counts)?;
+            heads.holds("item heads", &staff.arrays.heads)?;
+            keys.holds("item keys", &staff.arrays.keys)?;
+            leftovers.holds("leftovers", &staff.leftovers)?;
+            spellings(keys.elements(), &staff.spelled)
         }
         Err(_) => {
             counts.untouched("item counts")?;
             heads.untouched("item heads")?;
-            keys.untouched("item keys")
+            keys.untouched("item keys")?;
+            leftovers.untouched("leftovers")
         }
     }
 }

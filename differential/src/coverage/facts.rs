@@ -1,6 +1,6 @@
 //! What is looked for in a piece.
 
-const FACTS: [&str; 64] = [
+const FACTS: [&str; 65] = [
     "timecode",
     "division below 16",
     "several parts",
@@ -51,6 +51,7 @@ const FACTS: [&str; 64] = [
     "empty voice between two that have items",
     "ticks left over",
     "ticks left over inside a tie",
+    "ticks left over of a voice without items",
     "automation",
     "marker",
     "automation dropped by a marker",

@@ -1,16 +1,15 @@
 //! Facts of the piece's events, its bars and its staffs.
 
 use super::facts::Seen;
-use crate::answers::{Bar, Import, Item, Measure, Part};
+use crate::answers::{Bar, Import, Item, Leftover, Measure, Part};
 use crate::piece::{Piece, sounds};
-use crate::reference;
 
 pub fn see(seen: &mut Seen, piece: &Piece, import: &Import) {
     events(seen, piece, import);
     bars(seen, import);
     items(seen, import);
     for part in &import.parts {
-        staff(seen, piece.ticks_per_quarter(), &import.bars, part);
+        staff(seen, part);
     }
 }
 
@@ -91,7 +90,7 @@ fn items(seen: &mut Seen, import: &Import) {
     seen.note("unpitched", any(|item| item.unpitched));
 }
 
-fn staff(seen: &mut Seen, quarter: u64, bars: &[Bar], part: &Part) {
+fn staff(seen: &mut Seen, part: &Part) {
     let voices = || part.staff.iter().flatten();
     let tied = |two: &[Item]| two[0].tie_out && two[1].tie_in;
     let tie_inside = voices().any(|voice| voice.windows(2).any(tied));
@@ -103,8 +102,8 @@ fn staff(seen: &mut Seen, quarter: u64, bars: &[Bar], part: &Part) {
     seen.note("empty voice between two that have items", empty_between);
     let without = part.staff.iter().any(|m| m.iter().all(Vec::is_empty));
     seen.note("bar without items", without);
-    for (bar, measure) in bars.iter().zip(&part.staff) {
-        left_over(seen, quarter, bar, measure);
+    for (voice, leftover) in voices().zip(part.leftovers.iter().flatten()) {
+        left_over(seen, voice, leftover);
     }
     let rests = |measure: &Measure| measure.iter().flatten().all(|item| item.rest);
     seen.note(
@@ -135,19 +134,16 @@ fn run_before_more(staff: &[Measure], test: impl Fn(&Measure) -> bool) -> bool {
     })
 }
 
-fn left_over(seen: &mut Seen, quarter: u64, bar: &Bar, measure: &Measure) {
-    for (number, voice) in measure.iter().enumerate() {
-        if voice.is_empty() && number > 0 {
-            continue;
-        }
-        let beats = |item: &Item| reference::beats(item.code, item.dots);
-        let written = voice.iter().flat_map(beats).sum::<f64>() * quarter as f64;
-        let short = written < bar.length as f64 - 0.5;
-        seen.note("ticks left over", short);
-        let all_tied = voice.iter().all(|item| item.tie_in && item.tie_out);
-        seen.note(
-            "ticks left over inside a tie",
-            short && all_tied && !voice.is_empty(),
-        );
-    }
+fn left_over(seen: &mut Seen, voice: &[Item], leftover: &Leftover) {
+    let short = leftover.ticks > 0;
+    seen.note("ticks left over", short);
+    let all_tied = voice.iter().all(|item| item.tie_in && item.tie_out);
+    seen.note(
+        "ticks left over inside a tie",
+        short && all_tied && !voice.is_empty(),
+    );
+    seen.note(
+        "ticks left over of a voice without items",
+        short && leftover.sounds && voice.is_empty(),
+    );
 }

@@ -88,7 +88,8 @@ unsafe extern "C" {
         work: *mut u64, work_n: usize) -> StaffSize;
     fn acorde_engrave(s: Words, sn: usize, d: Words, dn: usize, w: Words, wn: usize, part: u32,
         counts: *mut u32, counts_n: usize, heads: *mut u32, heads_n: usize,
-        keys: *mut u64, keys_n: usize, work: *mut u64, work_n: usize) -> StaffSize;
+        keys: *mut u64, keys_n: usize, leftovers: *mut u32, leftovers_n: usize,
+        work: *mut u64, work_n: usize) -> StaffSize;
     fn acorde_proof_read(s: Words, sn: usize, d: Words, dn: usize, w: Words, wn: usize, part: u32,
         counts: Words, counts_n: usize, heads: Words, heads_n: usize,
         keys: *const u64, keys_n: usize, work: *mut u64, work_n: usize) -> Reading;
@@ -209,9 +210,15 @@ pub fn engrave(
     counts: &mut Lent<u32>,
     heads: &mut Lent<u32>,
     keys: &mut Lent<u64>,
+    leftovers: &mut Lent<u32>,
     work: &mut Lent<u64>,
 ) -> StaffSize {
-    call!(acorde_engrave, given, [part], [counts, heads, keys, work])
+    call!(
+        acorde_engrave,
+        given,
+        [part],
+        [counts, heads, keys, leftovers, work]
+    )
 }
 
 pub fn proof_read(given: &Given, part: u32, staff: &GivenStaff, work: &mut Lent<u64>) -> Reading {

@@ -34,7 +34,7 @@ const PART_COUNT: Call = Call("part count", 2, NONE);
 const PART_HEAD: Call = Call("part head", 3, NONE);
 const BARS: Call = Call("bars", 4, ["starts", "marks", "", "", ""]);
 const STAFF_SIZE: Call = Call("staff size", 5, NONE);
-const ENGRAVE: Call = Call("engrave", 6, ["keys", "", "counts", "heads", ""]);
+const ENGRAVE: Call = Call("engrave", 6, ["keys", "", "counts", "heads", "leftovers"]);
 const AUTOMATION: Call = Call("automation", 7, ["ticks", "", "words", "", ""]);
 const DIAGNOSTICS: Call = Call("diagnostics", 8, ["places", "details", "", "", ""]);
 const READ_SIZE: Call = Call("read size", 9, NONE);
@@ -132,7 +132,8 @@ impl Asks {
         } = packed::staff(&part.staff);
         let size = vec![0, counts.len() as u64 / 4, heads.len() as u64];
         self.add(STAFF_SIZE, number, size.clone(), Default::default());
-        let lists = [keys, vec![], wide(counts), wide(heads), vec![]];
+        let leftovers = packed::leftovers(&part.leftovers);
+        let lists = [keys, vec![], wide(counts), wide(heads), wide(leftovers)];
         self.add(ENGRAVE, number, size, lists);
         let packed::Automation {
             counts,

@@ -12,8 +12,8 @@ const NARROW_EVERY: usize = 5;
 const NARROW_LONGEST: usize = 4_000;
 /// The same of files.
 const NARROW_FILES: usize = 2;
-/// The calls on pieces take the first arrays alone.
-const OF_PIECES: usize = 4;
+/// The arrays whose lists a piece's length is told by: all but that of leftovers, which is also for files.
+const MEASURED: usize = 4;
 
 /// The text, and the calls that it has.
 pub fn list(entries: &[Entry], files: &[File]) -> (String, Calls) {
@@ -38,11 +38,11 @@ pub fn list(entries: &[Entry], files: &[File]) -> (String, Calls) {
     (text, counted)
 }
 
-/// The length of a piece's text without proof-reading, and without what is there for files alone.
+/// The length of a piece's text without proof-reading, without leftovers and without what is there for files alone.
 pub fn length(entry: &Entry) -> usize {
     let mut text = String::new();
     arrays(&mut text, 0, &entry.piece);
-    calls(&mut text, &asked::of(entry, false), OF_PIECES);
+    calls(&mut text, &asked::of(entry, false), MEASURED);
     text.len()
 }
 

@@ -25,13 +25,14 @@ impl Asked for Library {
         let size = library::staff_size(&self.given, part, &mut work);
         same("number of the staff's size", size.number, 0)?;
         let (mut counts, mut heads) = (Lent::new(4 * size.bars), Lent::new(size.items));
-        let mut keys = Lent::new(2 * size.items);
-        let (c, h, k) = (&mut counts, &mut heads, &mut keys);
-        let staff = library::engrave(&self.given, part, c, h, k, &mut work);
+        let (mut keys, mut leftovers) = (Lent::new(2 * size.items), Lent::new(4 * size.bars));
+        let (c, h, k, l) = (&mut counts, &mut heads, &mut keys, &mut leftovers);
+        let staff = library::engrave(&self.given, part, c, h, k, l, &mut work);
         same("staff", staff, size)?;
         counts.written("item counts", 4 * size.bars)?;
         heads.written("item heads", size.items)?;
         keys.written("item keys", 2 * size.items)?;
+        leftovers.written("leftovers", 4 * size.bars)?;
         Ok(Staff {
             counts: counts.elements().to_vec(),
             heads: heads.elements().to_vec(),

@@ -10,7 +10,7 @@ mod points;
 pub mod reasons;
 #[cfg(test)]
 mod tests;
-mod values;
+pub mod values;
 
 use crate::packed::{self, Staff};
 use crate::piece::Piece;

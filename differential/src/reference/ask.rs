@@ -1,6 +1,6 @@
 //! Asks the reference about a piece and gives its answers as plain data.
 
-use super::{Error, MAX_MIDI_EVENTS, Voices, steps};
+use super::{Error, MAX_MIDI_EVENTS, RawNote, Voices, leftovers, steps};
 use crate::answers::{
     Answers, Automation, Bar, Diagnostic, Entry, Head, Import, Item, Key, Measure, Part, Spelled,
 };
@@ -123,19 +123,23 @@ fn plain_import(score: Score, bytes: &[u8]) -> Import {
             .filter(|key| !key.mode.is_empty())
             .map(plain_key),
     };
+    let smf = Smf::parse(bytes).expect("a record is read");
+    let raw = steps::raw_parts(&smf);
+    let bars = plain_bars(&score, &smf, &raw);
+    let quarter = steps::ticks_per_quarter(&smf);
+    let parts = score.parts.iter().zip(&raw);
+    let parts = parts.map(|(part, raw)| plain_part(part, raw, quarter, &bars));
     Import {
         head,
-        bars: plain_bars(&score, bytes),
-        parts: score.parts.iter().map(plain_part).collect(),
+        parts: parts.collect(),
+        bars,
     }
 }
 
 /// Starts and lengths by `midi_bars`, marks from the measures; every part has the same.
-fn plain_bars(score: &Score, bytes: &[u8]) -> Vec<Bar> {
-    let smf = Smf::parse(bytes).expect("a record is read");
+fn plain_bars(score: &Score, smf: &Smf, parts: &[Vec<RawNote>]) -> Vec<Bar> {
     let (_, meters) = super::collect_meta_changes(&smf.tracks[0]);
-    let parts = steps::raw_parts(&smf);
-    let bars = steps::bars(&smf, &score.settings.time_signature, &meters, &parts);
+    let bars = steps::bars(smf, &score.settings.time_signature, &meters, parts);
     let first = &score.parts[0].staves[0].measures;
     for part in &score.parts {
         let measures = &part.staves[0].measures;
@@ -167,15 +171,18 @@ fn plain_bars(score: &Score, bytes: &[u8]) -> Vec<Bar> {
         .collect()
 }
 
-fn plain_part(part: &acorde_core::Part) -> Part {
+fn plain_part(part: &acorde_core::Part, raw: &[RawNote], quarter: u64, bars: &[Bar]) -> Part {
     let measures = &part.staves[0].measures;
     let voice = |voice: &Vec<Note>| voice.iter().map(plain_item).collect();
     let measure =
         |measure: &acorde_core::Measure| -> Measure { measure.voices.each_ref().map(voice) };
+    let staff: Vec<_> = measures.iter().map(measure).collect();
+    let voices = super::voices::voices(raw, quarter).chords;
     Part {
         channel: part.midi_channel,
         program: part.midi_program,
-        staff: measures.iter().map(measure).collect(),
+        leftovers: leftovers::leftovers(quarter, bars, &voices, &staff),
+        staff,
         automation: plain_automation(part),
     }
 }

@@ -2,6 +2,7 @@
 //! are whole files of it. `ask` turns its answers into plain data.
 
 mod ask;
+mod leftovers;
 mod stand_in;
 mod steps;
 pub mod times;

@@ -1,4 +1,4 @@
-//! A look at the voices before they are cut into bars, by the reference's own functions. Only
+//! A look at the voices before they are cut into bars, by the reference's own functions. Leftovers,
 //! the counts of what the generator reaches and one example need it.
 
 use super::RawNote;

@@ -14,9 +14,9 @@ use Rattle.agreement.proofs.engrave_and_read.Tie as tie
 
 abbrev start-of-match-keys2 : tie.At-match-keys2 → tie.Start
 start-of-match-keys2 c =
-    let at-heads = c .before .before .before .before .before .before in
+    let at-heads = c .before .before .before .before .before .before .before .before in
     let at-engrave = at-heads .before .before .before in
-    let at-slice-known3 = at-engrave .before .before .before .before .before .before in
+    let at-slice-known3 = at-engrave .before .before .before .before .before .before .before .before in
     at-slice-known3 .before .before .before .before .before .before
 
 -- the arrays have room for what was written
@@ -26,7 +26,7 @@ counts-room : (c : tie.After-struct-known) →
     4 * c .before .before .size .given .0 .0 .bars ≤ length (at-start .args .counts .now)
 counts-room c =
     let at-match = c .before .before .before in
-    let at-keys = at-match .before .before .before .before in
+    let at-keys = at-match .before .before .before .before .before .before in
     let at-engrave = at-keys .before .before .before .before .before in
     counts-fit _ _ (at-engrave .engrave .ensures) _ (ap answerOf (sym (c .before .before .size .given .1)))
 
@@ -36,7 +36,7 @@ heads-room : (c : tie.After-struct-known) →
     c .before .before .size .given .0 .0 .items ≤ length (at-start .args .heads .now)
 heads-room c =
     let at-match = c .before .before .before in
-    let at-keys = at-match .before .before .before .before in
+    let at-keys = at-match .before .before .before .before .before .before in
     let at-engrave = at-keys .before .before .before .before .before in
     heads-fit _ _ (at-engrave .engrave .ensures) _ (ap answerOf (sym (c .before .before .size .given .1)))
 
@@ -46,14 +46,14 @@ keys-room : (c : tie.After-struct-known) →
     2 * c .before .before .size .given .0 .0 .items ≤ length (at-start .args .keys .now)
 keys-room c =
     let at-match = c .before .before .before in
-    let at-keys = at-match .before .before .before .before in
+    let at-keys = at-match .before .before .before .before .before .before in
     let at-engrave = at-keys .before .before .before .before .before in
     keys-fit _ _ (at-engrave .engrave .ensures) _ (ap answerOf (sym (c .before .before .size .given .1)))
 
 returns : tie.Need-returns
 returns c =
     let at-match = c .before .before in
-    let at-keys = at-match .before .before .before .before in
+    let at-keys = at-match .before .before .before .before .before .before in
     let at-engrave = at-keys .before .before .before .before .before in
     engraving-refused _ _ (at-engrave .engrave .ensures) _ (ap answerOf (sym (c .before .number .given .1)))
 
@@ -62,7 +62,7 @@ returns-2 c =
     let at-proof-read = c .before .before .before .before in
     let at-size = at-proof-read .before .before .before .before .before .before .before .before in
     let at-match = at-size .before in
-    let at-keys = at-match .before .before .before .before in
+    let at-keys = at-match .before .before .before .before .before .before in
     let at-engrave = at-keys .before .before .before .before .before in
     read-uneven _ _ (at-engrave .engrave .ensures) _ (ap answerOf (sym (at-size .size .given .1))) (at-proof-read .proof-read .ensures)
     (ap readAnswer (sym (c .enum-told .given .1)))
@@ -72,7 +72,7 @@ returns-3 c =
     let at-proof-read = c .before .before .before .before .before in
     let at-size = at-proof-read .before .before .before .before .before .before .before .before in
     let at-match = at-size .before in
-    let at-keys = at-match .before .before .before .before in
+    let at-keys = at-match .before .before .before .before .before .before in
     let at-engrave = at-keys .before .before .before .before .before in
     read-told _ _ (at-engrave .engrave .ensures) _ (ap answerOf (sym (at-size .size .given .1))) (at-proof-read .proof-read .ensures)
     (ap readAnswer (sym (c .before .yes .given .1)))
@@ -80,23 +80,29 @@ returns-3 c =
 counts-part : tie.Need-slice-reshare-prefix-proof-read
 counts-part c =
     let at-match = c .before .before .before .before in
-    let at-keys = at-match .before .before .before .before in
+    let at-keys = at-match .before .before .before .before .before .before in
     let at-engrave = at-keys .before .before .before .before .before in
     omega (arith, counts-room (c .before), at-engrave .engrave .kept .1 .1 .1 .1 .0)
 
 heads-part : tie.Need-slice-reshare-prefix-proof-read-2
 heads-part c =
     let at-match = c .before .before .before .before .before in
-    let at-keys = at-match .before .before .before .before in
+    let at-keys = at-match .before .before .before .before .before .before in
     let at-engrave = at-keys .before .before .before .before .before in
     omega (arith, heads-room (c .before .before), at-engrave .engrave .kept .1 .1 .1 .1 .1 .0)
 
 keys-part : tie.Need-slice-reshare-prefix-proof-read-3
 keys-part c =
     let at-match = c .before .before .before .before .before .before in
-    let at-keys = at-match .before .before .before .before in
+    let at-keys = at-match .before .before .before .before .before .before in
     let at-engrave = at-keys .before .before .before .before .before in
     omega (arith, keys-room (c .before .before .before), at-engrave .engrave .kept .1 .1 .1 .1 .1 .1 .0)
+
+mul-c : tie.Need-mul-c
+mul-c c =
+    let at-match = c .before .before .before in
+    let at-start = start-of-match-keys2 at-match in
+    omega (arith, counts-room c, at-start .good .1 .1 .1 .1 .0)
 
 mul-k : tie.Need-mul-k
 mul-k c =
@@ -111,7 +117,7 @@ engrave-and-read-spec =
     (λ c κs. search needs)
     (λ c. search needs)
     (λ c. search needs)
-    (λ c. omega (arith, counts-room c))
+    mul-c
     mul-k
     counts-part
     (λ c. sym (length-take-le _ _ (counts-part (c .before))))
@@ -126,12 +132,15 @@ engrave-and-read-spec =
     (λ c. search needs)
     (λ c. search needs)
     (λ c. search needs)
+    (λ c. search needs)
     returns
     (λ c. search needs)
     (λ c. search needs)
     (λ c. search needs)
     (λ c. search needs)
+    (λ c. search needs)
     returns-2
+    (λ c. search needs)
     (λ c. search needs)
     (λ c. search needs)
     (λ c. search needs)

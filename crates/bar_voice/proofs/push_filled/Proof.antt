@@ -1,27 +1,26 @@
 -- `push_filled`: the loop's invariant is that the bar is half written.
-use Prim.Native.Nat.{ℕ, _-_, _<_, _≤_}
+use Prim.Native.Nat.{ℕ, _+_, _-_, _<_, _≤_, _^_}
 use mathlib.Core.List.{List}
 use mathlib.Core.Path.{_≡_, sym, ap, _∙_}
 use native.Mathlib.Omega.{arith}
 use borrow.Author.Needs.{needs}
 use lib.ListN.{length, drop}
-use Rattle.rules.specs.Staff.{rests}
 use Rattle.rules.specs.Voices.{Chord}
 use Rattle.chords.specs.Columns as columns
 use Rattle.items.specs.Writing.{quarter}
 use Rattle.bar_voice.specs.Voices.{voiceOf, chordOf}
 use Rattle.bar_voice.proofs.VoiceWalk.{voice-length, voice-get, can-read}
-use Rattle.bar_voice.proofs.Sounding.{coming, ahead-none, ahead-late, ahead-gap, ahead-sounds}
-use Rattle.bar_voice.proofs.InBar.{Midbar, mid-start, mid-heads, mid-keys, mid-rest, mid-end, mid-room, mid-more}
+use Rattle.bar_voice.proofs.Sounding.{OnlyRests, ahead-none, ahead-late, ahead-gap, ahead-sounds}
+use Rattle.bar_voice.proofs.InBar.{Midbar, mid-start, mid-heads, mid-keys, mid-rest, mid-end, mid-fits, mid-room, mid-more}
 use Rattle.bar_voice.proofs.push_filled.Statement.{statement}
 use Rattle.bar_voice.proofs.push_filled.Tie as tie
 
 abbrev Inv-loop : tie.InvT-loop
-Inv-loop write values work n v len next bar heads₀ keys₀ from at₀ tick₀ j₀ heads keys at tick j =
-    Midbar write (quarter values) (bar .start) (bar .end) (voiceOf n work v len) from heads₀ keys₀ heads keys at tick j
+Inv-loop write values work n v len next bar heads₀ keys₀ from s₀ tick₀ j₀ heads keys s tick j =
+    Midbar write (quarter values) (bar .start) (bar .end) (voiceOf n work v len) from heads₀ keys₀ heads keys s tick j
 
 abbrev μ-loop : tie.MeasureT-loop
-μ-loop write values work n v len next bar heads₀ keys₀ from at₀ tick₀ j₀ heads keys at tick j = len - j
+μ-loop write values work n v len next bar heads₀ keys₀ from s₀ tick₀ j₀ heads keys s tick j = len - j
 
 loop-holds : tie.Need-loop-holds Inv-loop μ-loop
 loop-holds c = let pre = c .before .before .before .pre in mid-start _ _ _ _ _ (pre .2) (pre .1 .line) (pre .3)
@@ -56,8 +55,7 @@ only-rests : (c : tie.Then1 Inv-loop μ-loop) →
     let at-start = at-loop .before .before .before .before in
     let at = at-loop .loop in
     let given = at-start .args in
-    coming (quarter (given .values .now)) (given .bar .start) (given .bar .end) (drop (at .j) (voice (c .before .before .before))) (at .tick)
-    ≡ rests (quarter (given .values .now)) (given .bar .end - at .tick)
+    OnlyRests (quarter (given .values .now)) (given .bar .start) (given .bar .end) (drop (at .j) (voice (c .before .before .before))) (at .tick)
 only-rests c =
     let at-voice-chord = c .before .before .before in
     ahead-late (voice at-voice-chord) (place at-voice-chord) (inside at-voice-chord) (at-voice-chord .before .before .loop .inv .ahead) _
@@ -76,7 +74,7 @@ push-rests-requires c κs =
     let at-loop = at-if1 .before .before .before .before .before in
     let at-start = at-loop .before .before .before .before in
     let pre = at-start .pre in
-    (pre .0, mid-rest (pre .4) (at-loop .loop .inv) (only-rests at-if1))
+    (pre .0, mid-fits (pre .4) (at-loop .loop .inv) _ (omega arith), mid-rest (pre .4) (at-loop .loop .inv) (only-rests at-if1))
 
 same-length : tie.Need-same-length Inv-loop μ-loop
 same-length c =
@@ -112,6 +110,7 @@ push-gap-and-chord-requires c κs =
       pre .0,
       rw (read v) (ahead-sounds (voice v) (place v) (inside v) (at .inv .ahead) early (pre .2)),
       rw (ap (λ (d : Chord). d .start) (read v)) (ahead-gap (voice v) (place v) (inside v) (at .inv .ahead)),
+      at .inv .few,
       rw (read v) (mid-room (pre .4) (at .inv) (inside v) early),
     )
 
@@ -122,13 +121,20 @@ loop-again c =
     let at-start = v .before .before .before .before .before .before in
     rw (c .smaller .ensures, ap (λ (d : Chord). d .end) (read v))
     (mid-more (at-start .pre .4) (v .before .before .loop .inv) (inside v) (starts-early (at-push-gap-and-chord .before .before .before))
+    (at-start .pre .0 .some-ticks) (at-start .pre .2)
     (rw (read v) at (at-push-gap-and-chord .push-gap-and-chord .ensures)))
+
+add-j : tie.Need-add-j Inv-loop μ-loop
+add-j c =
+    let at-push-gap-and-chord = c .before .before .before .before .before in
+    let at-loop-test = at-push-gap-and-chord .before .before .before .before .before .before .before in
+    let few : at-loop-test .before .loop .j + 1 < 2 ^ 64 = omega (arith, at-loop-test .loop-test .taken) in
+    record { fits = few }
 
 -- no chord is left
 none-left : (c : tie.After-loop Inv-loop μ-loop) → let at = c .before .loop in let given = c .before .before .before .before .before .args in
-    coming (quarter (given .values .now)) (given .bar .start) (given .bar .end)
+    OnlyRests (quarter (given .values .now)) (given .bar .start) (given .bar .end)
     (drop (at .j) (voiceOf (given .n) (given .work .now) (given .v) (given .len))) (at .tick)
-    ≡ rests (quarter (given .values .now)) (given .bar .end - at .tick)
 none-left c =
     let given = c .before .before .before .before .before .args in
     let cs : List Chord = voiceOf (given .n) (given .work .now) (given .v) (given .len) in
@@ -140,7 +146,7 @@ push-rests-requires-2 c κs =
     let at-loop = c .before .before .before .before in
     let at-start = at-loop .before .before .before .before in
     let pre = at-start .pre in
-    (pre .0, mid-rest (pre .4) (at-loop .loop .inv) (none-left (c .before .before .before)))
+    (pre .0, mid-fits (pre .4) (at-loop .loop .inv) _ (omega arith), mid-rest (pre .4) (at-loop .loop .inv) (none-left (c .before .before .before)))
 
 same-length-3 : tie.Need-same-length-3 Inv-loop μ-loop
 same-length-3 c =
@@ -178,7 +184,7 @@ push-filled-spec =
     returns
     push-gap-and-chord-requires
     (λ c κs. search needs)
-    (λ c. omega arith)
+    add-j
     (λ c. omega arith)
     loop-again
     (λ c. c .before .before .loop .inv .ahead .inside)

@@ -1,5 +1,5 @@
 -- `push_voice`: each way out rewrites the definition by its tests.
-use mathlib.Core.Path.{_≡_, sym, _∙_}
+use mathlib.Core.Path.{_≡_, refl, sym, _∙_}
 use borrow.Author.Needs.{needs}
 use borrow.Author.Tests.{eq-eqb, ne-eqb}
 use Rattle.rules.specs.Lists.{any}
@@ -44,7 +44,7 @@ returns-2 c =
     (at-push-filled2 .push-filled2 .ensures)
 
 returns-3 : tie.Need-returns-3
-returns-3 c = rw (ne-eqb _ _ (c .before .before .if1 .left), sounding (c .before) ∙ c .if2 .left) (items-none _ _ _ _)
+returns-3 c = rw (ne-eqb _ _ (c .before .before .if1 .left), sounding (c .before) ∙ c .if2 .left) (record { items = items-none _ _ _ _; left = refl })
 
 pub push-voice-spec : {M : Type 1} → statement M
 push-voice-spec =

@@ -6,7 +6,7 @@ use Rattle.items.proofs.push_rests.Statement.{statement}
 use Rattle.items.proofs.push_rests.Tie as tie
 
 push-span-requires : tie.Need-push-span-requires
-push-span-requires c κs = let pre = c .before .before .before .before .pre in (pre .0, omega arith, rw (rests-length _ _) at (pre .1))
+push-span-requires c κs = let pre = c .before .before .before .before .pre in (pre .0, omega arith, pre .1, rw (rests-length _ _) at (pre .2))
 
 returns : tie.Need-returns
 returns c = span-rests (c .before .before .before .before .push-span .ensures)

@@ -28,7 +28,7 @@ returns-3 c =
 
 open-part-requires : tie.Need-open-part-requires
 open-part-requires c κs =
-    let at-else3 = c .before .before .before .before in
+    let at-else3 = c .before .before .before .before .before in
     let at-else2 = at-else3 .before .before in
     let a = start-of-struct (at-else2 .before .before) in
     (a .pre .0, (a .pre .1, (at-else2 .before .if1 .left, at-else2 .if2 .left, omega (arith, at-else3 .if3 .left))))

@@ -17,7 +17,7 @@ rooms cs hs ks ss ms ec eh ek hs₂ hm =
 
 print-lent-requires : tie.Need-print-lent-requires
 print-lent-requires c κs =
-    let at-buffer = c .before .before .before .before .before in
+    let at-buffer = c .before .before .before .before .before .before in
     let at-shared = at-buffer .before .before in
     let a = at-shared .before .before .before .before .before in (
       a .pre .0,
@@ -42,7 +42,7 @@ print-opened-spec =
     (λ c. sym (length-replicate {A = ℕ} 40000 0))
     (λ c. sym (length-replicate {A = ℕ} 60000 0))
     (λ c. sym (length-replicate {A = ℕ} 120000 0))
-    (λ c. c .before .before .before .before .before .large-buffer .ensures)
+    (λ c. c .before .before .before .before .before .before .large-buffer .ensures)
     print-lent-requires
-    (λ c. c .before .before .before .before .before .before .print-lent .kept .1 .1 .1 .1 .1 .1 .1 .1 .1 .0)
+    (λ c. c .before .before .before .before .before .before .print-lent .kept .1 .1 .1 .1 .1 .1 .1 .1 .1 .1 .0)
     (λ c. tt))

@@ -32,8 +32,8 @@ returns-5 c =
 
 returns-6 : tie.Need-returns-6
 returns-6 c =
-    let at-call = c .before .before .before .before .before .before .before .before .before .before in
-    engrave-left _ _ _ _ _ (at-call .before .before .before .before .before .before .match .keys6) (at-call .engrave .ensures)
+    let at-call = c .before .before .before .before .before .before .before .before .before .before .before .before in
+    engrave-left _ _ _ _ _ (at-call .before .before .before .before .before .before .before .match .keys6) (at-call .engrave .ensures)
 
 returns-7 : tie.Need-returns-7
 returns-7 c =
@@ -69,7 +69,8 @@ call-spec =
     (tie.spec (λ c κs. search needs) (λ c κs. search needs) (λ c κs. search needs) (λ c κs. search needs) (λ c κs. search needs) (λ c κs. search needs)
     (λ c κs. search needs) (λ c κs. search needs) (λ c κs. search needs) (λ c κs. search needs) (λ c. search needs) returns (λ c. search needs)
     returns-2 (λ c. search needs) returns-3 (λ c. search needs) (λ c. search needs) (λ c. search needs) returns-4 (λ c. search needs)
-    (λ c. search needs) returns-5 (λ c. search needs) (λ c. search needs) (λ c. search needs) (λ c. search needs) (λ c. search needs) returns-6
+    (λ c. search needs) returns-5 (λ c. search needs) (λ c. search needs) (λ c. search needs) (λ c. search needs) (λ c. search needs)
+    (λ c. search needs) returns-6
     (λ c. search needs) (λ c. search needs) (λ c. search needs) returns-7 (λ c. search needs) (λ c. search needs) (λ c. search needs)
     (λ c. search needs) returns-8 (λ c. search needs) (λ c. search needs) (λ c. search needs) (λ c. search needs) (λ c. search needs) returns-9
     (λ c. search needs) (λ c. search needs) (λ c. search needs) (λ c. search needs) returns-10)

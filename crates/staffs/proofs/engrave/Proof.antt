@@ -20,64 +20,54 @@ returns c =
     let at-if1 = at-clear .before .before in
     let voices = at-if1 .before .before .before .before .part-voices in
     staff-refused (at-clear .clear .ensures ∙ ap (λ (n : ℕ). replicate n 0) (voices .kept .1 .1 .1 .1 .0)) _
-    (voices .ensures .no-staff (at-if1 .if1 .taken) _ _ _)
+    (voices .ensures .no-staff (at-if1 .if1 .taken) _ _ _ _)
 
 bar-source-requires : tie.Need-bar-source-requires
 bar-source-requires c κs = c .before .before .before .before .part-voices .ensures .ready (c .if1 .left) .known
 
 write-staff-requires : tie.Need-write-staff-requires
 write-staff-requires c κs =
-    let at-cut2 = c .before .before .before .before .before in
+    let at-cut2 = c .before .before .before .before .before .before in
     let at-source = at-cut2 .before .before in
     let at-if1 = at-source .before in
     can-engrave (at-if1 .before .before .before .before .part-voices .ensures .ready (at-if1 .if1 .left)) (at-source .bar-source .ensures)
     (at-cut2 .before .cut .ensures) (at-cut2 .cut2 .ensures)
 
+-- behind the staff
+abbrev at-staff : tie.After-answer → tie.After-write-staff
+at-staff c =
+    let at-leftovers = c .before .before .before .before .before .before in
+    at-leftovers .before .before .before .before .before .before .before
+
 same-length-2 : tie.Need-same-length-2
-same-length-2 c =
-    let at-clear = c .before .before .before in
-    let at-keys = at-clear .before .before .before in
-    let at-staff = at-keys .before .before .before .before .before in
-    at-staff .write-staff .kept .1 .1 .1 .1 .1 .1 .1 .1 .0
+same-length-2 c = at-staff c .write-staff .kept .1 .1 .1 .1 .1 .1 .1 .1 .0
 
 same-length-3 : tie.Need-same-length-3
-same-length-3 c =
-    let at-clear = c .before .before .before in
-    let at-keys = at-clear .before .before .before in
-    let at-staff = at-keys .before .before .before .before .before in
-    at-staff .write-staff .kept .1 .1 .1 .1 .1 .1 .1 .1 .1 .0
+same-length-3 c = at-staff c .write-staff .kept .1 .1 .1 .1 .1 .1 .1 .1 .1 .0
 
 same-length-4 : tie.Need-same-length-4
-same-length-4 c =
-    let at-clear = c .before .before .before in
-    let at-keys = at-clear .before .before .before in
-    let at-staff = at-keys .before .before .before .before .before in
-    at-staff .write-staff .kept .1 .1 .1 .1 .1 .1 .1 .1 .1 .1 .0
+same-length-4 c = at-staff c .write-staff .kept .1 .1 .1 .1 .1 .1 .1 .1 .1 .1 .0
 
 same-length-5 : tie.Need-same-length-5
-same-length-5 c =
-    let at-clear = c .before .before .before in
-    let at-keys = at-clear .before .before .before in
-    let at-staff = at-keys .before .before .before .before .before in
-    let at-lens = at-staff .before .before .before .before .before in
+same-length-5 c = at-staff c .write-staff .kept .1 .1 .1 .1 .1 .1 .1 .1 .1 .1 .1 .0
+
+same-length-6 : tie.Need-same-length-6
+same-length-6 c =
+    let at-lens = at-staff c .before .before .before .before .before .before in
     let at-source = at-lens .before .before .before in
     let at-part-voices = at-source .before .before .before .before .before in
-    at-clear .clear2 .kept .0 ∙ at-part-voices .part-voices .kept .1 .1 .1 .1 .0
+    c .before .before .before .clear2 .kept .0 ∙ at-part-voices .part-voices .kept .1 .1 .1 .1 .0
 
 returns-2 : tie.Need-returns-2
 returns-2 c =
-    let at-clear = c .before .before .before in
-    let at-keys = at-clear .before .before .before in
-    let at-staff = at-keys .before .before .before .before .before in
-    let at-cut2 = at-staff .before .before .before .before .before .before in
+    let at-cut2 = at-staff c .before .before .before .before .before .before .before in
     let at-source = at-cut2 .before .before in
     let at-if1 = at-source .before in
-    let at-part-voices = at-if1 .before .before .before .before in
-    let voices = at-part-voices .part-voices in
+    let voices = at-if1 .before .before .before .before .part-voices in
     rw (c .answer .ensures)
-    (staff-called (at-clear .clear2 .ensures ∙ ap (λ (n : ℕ). replicate n 0) (voices .kept .1 .1 .1 .1 .0))
+    (staff-called (c .before .before .before .clear2 .ensures ∙ ap (λ (n : ℕ). replicate n 0) (voices .kept .1 .1 .1 .1 .0))
     (staff-given (voices .ensures .ready (at-if1 .if1 .left)) (at-source .bar-source .ensures) (at-cut2 .before .cut .ensures) (at-cut2 .cut2 .ensures)
-    (at-staff .write-staff .ensures)))
+    (at-staff c .write-staff .ensures)))
 
 pub engrave-spec : {M : Type 1} → statement M
 engrave-spec =
@@ -97,4 +87,5 @@ engrave-spec =
     same-length-3
     same-length-4
     same-length-5
+    same-length-6
     returns-2)

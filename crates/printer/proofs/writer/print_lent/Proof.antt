@@ -12,7 +12,7 @@ start-of-arg c =
 
 print-page-requires : tie.Need-print-page-requires
 print-page-requires c κs =
-    let a = start-of-arg (c .before .before .before .before .before .before .before) in
+    let a = start-of-arg (c .before .before .before .before .before .before .before .before) in
     (a .pre .1 .0 _ refl refl, a .pre .1 .1)
 
 pub print-lent-spec : {M : Type 1} → statement M

@@ -11,7 +11,7 @@ use Rattle.printer.proofs.writer.print_page.Statement.{statement}
 use Rattle.printer.proofs.writer.print_page.Tie as tie
 
 abbrev Inv-loop : tie.InvT-loop
-Inv-loop sizes deltas words starts marks counts₀ heads₀ keys₀ work₀ out₀ at₀ counts heads keys work out at =
+Inv-loop sizes deltas words starts marks counts₀ heads₀ keys₀ leftovers₀ work₀ out₀ at₀ counts heads keys leftovers work out at =
     (length counts ≡ length counts₀)
     × (length heads ≡ length heads₀)
     × (length keys ≡ length keys₀)
@@ -20,7 +20,7 @@ Inv-loop sizes deltas words starts marks counts₀ heads₀ keys₀ work₀ out�
     × Ready (piece sizes deltas words) (record { items = length heads₀; work = length work₀ }) (sheet counts heads keys starts marks) at
 
 abbrev μ-loop : tie.MeasureT-loop
-μ-loop sizes deltas words starts marks counts₀ heads₀ keys₀ work₀ out₀ at₀ counts heads keys work out at =
+μ-loop sizes deltas words starts marks counts₀ heads₀ keys₀ leftovers₀ work₀ out₀ at₀ counts heads keys leftovers work out at =
     weight (piece sizes deltas words) (sheet counts heads keys starts marks) at
 
 abbrev start-of-loop : tie.At-loop Inv-loop μ-loop → tie.Start Inv-loop μ-loop
@@ -35,7 +35,7 @@ loop-holds c =
 
 turn-requires : tie.Need-turn-requires Inv-loop μ-loop
 turn-requires c κs =
-    let at-loop = c .before .before .before .before .before .before .before in
+    let at-loop = c .before .before .before .before .before .before .before .before in
     let a = start-of-loop at-loop in
     let i = at-loop .loop .inv in
     let r = a .pre .1 .0 in (
@@ -59,13 +59,13 @@ turn-of-known c =
 loop-less : tie.Need-loop-less Inv-loop μ-loop
 loop-less c =
     let at-turn = turn-of-known c in
-    let at-then = at-turn .before .before .before .before .before .before in
+    let at-then = at-turn .before .before .before .before .before .before .before in
     at-turn .turn .ensures .less (sym (at-then .before .goes-on .ensures) ∙ at-then .if1 .taken)
 
 loop-again : tie.Need-loop-again Inv-loop μ-loop
 loop-again c =
     let at-turn = turn-of-known c in
-    let at-then = at-turn .before .before .before .before .before .before in
+    let at-then = at-turn .before .before .before .before .before .before .before in
     let i = at-then .before .before .loop .inv in
     (omega arith, omega arith, omega arith, omega arith, omega arith, rw (i .1, i .3) at (at-turn .turn .ensures .ready))
 

@@ -8,7 +8,7 @@ use Rattle.printer.proofs.writer.turn.Tie as tie
 
 abbrev start-of-open : tie.After-open-next → tie.Start
 start-of-open c =
-    let at-slices = c .before .before .before .before .before in
+    let at-slices = c .before .before .before .before .before .before in
     at-slices .before .before .before .before .before .before .before .before .before .before
 
 abbrev open-of-arg : tie.After-put-lines-arg4 → tie.After-open-next
