@@ -136,10 +136,7 @@ pub fn push_voice(
         (voiceLeftFrom (quarter (now (values .entry))) (eqb v 0) (bar .start) (bar .end) (voiceOf n (now (work .entry)) v len)) (startAt from)
         (now (heads .entry)) (now (keys .entry)) (now (heads .exit)) (now (keys .exit)) r ⌝ }
 {
-    if v == 0 {
-        return push_filled(write, values, work, n, v, len, next, bar, heads, keys, from);
-    }
-    if sounds(work, n, v, len, next, bar.end) {
+    if v == 0 || sounds(work, n, v, len, next, bar.end) {
         return push_filled(write, values, work, n, v, len, next, bar, heads, keys, from);
     }
     Split { at: from, left: 0 }
