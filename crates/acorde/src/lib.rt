@@ -19,7 +19,7 @@ use proofread::ReadAnswer;
 use staffs::StaffAnswer;
 
 #[repr(C)]
-#[derive(Drop)]
+#[derive(Clone, Copy)]
 pub struct AcordeHead {
     pub number: u32,
     pub tempo: u32,
@@ -31,14 +31,14 @@ pub struct AcordeHead {
 }
 
 #[repr(C)]
-#[derive(Drop)]
+#[derive(Clone, Copy)]
 pub struct AcordeCount {
     pub number: u32,
     pub count: u32,
 }
 
 #[repr(C)]
-#[derive(Drop)]
+#[derive(Clone, Copy)]
 pub struct AcordePartHead {
     pub number: u32,
     pub channel: u32,
@@ -46,7 +46,7 @@ pub struct AcordePartHead {
 }
 
 #[repr(C)]
-#[derive(Drop)]
+#[derive(Clone, Copy)]
 pub struct AcordeAutomation {
     pub number: u32,
     pub bends: usize,
@@ -56,7 +56,7 @@ pub struct AcordeAutomation {
 }
 
 #[repr(C)]
-#[derive(Drop)]
+#[derive(Clone, Copy)]
 pub struct AcordeStaff {
     pub number: u32,
     pub bars: usize,
@@ -64,7 +64,7 @@ pub struct AcordeStaff {
 }
 
 #[repr(C)]
-#[derive(Drop)]
+#[derive(Clone, Copy)]
 pub struct AcordePiece {
     pub number: u32,
     pub sizes: usize,
@@ -73,7 +73,7 @@ pub struct AcordePiece {
 
 // right is 1 for yes, 0 for no.
 #[repr(C)]
-#[derive(Drop)]
+#[derive(Clone, Copy)]
 pub struct AcordeReading {
     pub number: u32,
     pub right: u32,

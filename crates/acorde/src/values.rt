@@ -8,14 +8,14 @@ use duration::Measured;
 use pitch::{Pitch, Spelled, Step};
 
 #[repr(C)]
-#[derive(Drop)]
+#[derive(Clone, Copy)]
 pub struct AcordeBeats {
     pub number: u32,
     pub beats: f64,
 }
 
 #[repr(C)]
-#[derive(Drop)]
+#[derive(Clone, Copy)]
 pub struct AcordeSpelling {
     pub number: u32,
     pub step: u32,

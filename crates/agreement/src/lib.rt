@@ -8,7 +8,7 @@ use staffs::StaffAnswer;
 
 // What happened: engraving was refused, with its number; the staff was engraved and not read, since the part is uneven; it was engraved and
 // read, and this is the verdict.
-#[derive(Drop)]
+#[derive(Clone, Copy)]
 pub enum BothAnswer {
     Refused(u32),
     Uneven(Size),

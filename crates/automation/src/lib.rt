@@ -9,7 +9,7 @@ ghost use Rattle.automation.specs.Answers.{automation_answer, automation_outcome
 use automation_events::Counts;
 use track_events::cut;
 
-#[derive(Drop)]
+#[derive(Clone, Copy)]
 pub enum AutomationAnswer {
     Refused(u32),
     Given(Counts),

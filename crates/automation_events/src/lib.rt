@@ -13,7 +13,7 @@ use automation_ticks::{AutomationTick, SourceTick};
 use basics::size;
 
 // The lists, in the order in which they are written.
-#[derive(Drop)]
+#[derive(Clone, Copy)]
 pub enum Kind {
     Bend,
     Controller,
@@ -49,7 +49,7 @@ fn is_wanted(kind: Kind, word: u32, dropped: [bool; 16]) -> bool
 }
 
 // How many events each list has.
-#[derive(Drop)]
+#[derive(Clone, Copy)]
 pub struct Counts {
     pub bends: usize,
     pub controllers: usize,

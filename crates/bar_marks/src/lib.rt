@@ -6,7 +6,7 @@ ghost use Rattle.bar_marks.specs.Marks.{packed, unpacked};
 use basics::wide;
 
 // The figures of the meter and whether it is printed; tempo and fifths + 8, 0 where none is marked; whether the key is minor.
-#[derive(Drop)]
+#[derive(Clone, Copy)]
 pub struct Mark {
     pub upper: u32,
     pub lower: u32,

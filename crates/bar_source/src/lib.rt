@@ -4,7 +4,7 @@ ghost use Rattle.laws.specs.Admitted.{Admitted};
 ghost use Rattle.bar_source.specs.Source.{IsBarSource};
 
 // Ticks per quarter, the end tick, and where the first track stands.
-#[derive(Drop)]
+#[derive(Clone, Copy)]
 pub struct BarSource {
     pub p: u64,
     pub end: u64,

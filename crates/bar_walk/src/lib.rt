@@ -10,7 +10,7 @@ ghost use Rattle.bar_walk.specs.Walk.{first_walker, Ready, Skipped, Settled, Can
 use bar_marks::Mark;
 
 // The walk along the bars. It stands at the start of a bar; the first `at` events are taken.
-#[derive(Drop)]
+#[derive(Clone, Copy)]
 pub struct Walker {
     // ticks per quarter
     pub p: u64,

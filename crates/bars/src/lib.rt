@@ -7,7 +7,7 @@ ghost use Rattle.bars.specs.Answers.{bars_answer};
 
 use basics::MOST_BARS;
 
-#[derive(Drop)]
+#[derive(Clone, Copy)]
 pub enum BarsAnswer {
     Refused(u32),
     Given(u32),

@@ -1,4 +1,6 @@
 // Limits by their names, and small functions that many crates use.
+#![tactic(auto)]
+
 ghost use Rattle.std.specs.Prelude.{◌≡◌, ◌≤◌, max};
 ghost use Rattle.rules.specs.Lists.{cleared};
 ghost use Rattle.rules.specs.Refusals.{work_for, most_events};

@@ -7,7 +7,7 @@ ghost use Rattle.changes.specs.Heads.{HeadIs, PartHeadIs};
 ghost use Rattle.changes.specs.Reads.{nothing_read, took_tempo, took_meter, took_key, took, head_read};
 
 // The head of a piece. Where there is no key, fifths is 0 and minor false.
-#[derive(Drop)]
+#[derive(Clone, Copy)]
 pub struct Head {
     pub tempo: u32,
     pub upper: u32,
@@ -18,7 +18,7 @@ pub struct Head {
 }
 
 // The head of a part.
-#[derive(Drop)]
+#[derive(Clone, Copy)]
 pub struct PartHead {
     pub channel: u32,
     pub program: u32,
@@ -66,7 +66,7 @@ pub fn fifths_of(w: u32) -> i32
 }
 
 // What is read of the head so far; the flags say what is read: a tempo, a meter, a key.
-#[derive(Drop)]
+#[derive(Clone, Copy)]
 struct Reading {
     tempo: u32,
     upper: u32,

@@ -18,7 +18,7 @@ ghost use Rattle.chords.specs.Columns.{falling_at, note_of, Ready, chord_at, key
 ghost use Rattle.chords.specs.Steps.{SnappedTo, Fetched, SortedTo, Stored};
 
 // A note.
-#[derive(Drop)]
+#[derive(Clone, Copy)]
 pub struct Note {
     pub start: u64,
     pub end: u64,
@@ -27,14 +27,14 @@ pub struct Note {
 }
 
 // Keys as bits, those below 64 and those from 64 on.
-#[derive(Drop)]
+#[derive(Clone, Copy)]
 pub struct Keys {
     pub low: u64,
     pub high: u64,
 }
 
 // A chord: snapped start and end, its keys, and whether it is unpitched.
-#[derive(Drop)]
+#[derive(Clone, Copy)]
 pub struct VoiceChord {
     pub start: u64,
     pub end: u64,

@@ -5,7 +5,7 @@ ghost use Rattle.rules.specs.Calls.{diagnostics_call, DiagnosticsCalled};
 ghost use Rattle.std.specs.Prelude.{◌<◌, length};
 ghost use Rattle.diagnostics.specs.Answers.{diagnostics_answer, DiagnosticsWritten};
 
-#[derive(Drop)]
+#[derive(Clone, Copy)]
 pub enum DiagnosticsAnswer {
     Refused(u32),
     Given(u32),

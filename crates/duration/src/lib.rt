@@ -7,7 +7,7 @@ ghost use Rattle.rules.specs.Calls.{beats_call};
 const MOST_DOTS: u32 = 3;
 
 // A power-of-two fraction of a whole note.
-#[derive(Drop)]
+#[derive(Clone, Copy)]
 pub enum Duration {
     Longa,
     Breve,
@@ -21,26 +21,26 @@ pub enum Duration {
     HundredTwentyEighth,
 }
 
-#[derive(Drop)]
+#[derive(Clone, Copy)]
 pub struct Fraction {
     pub num: u32,
     pub den: u32,
 }
 
 // What the calls answer; OutOfRange is number 10.
-#[derive(Drop)]
+#[derive(Clone, Copy)]
 pub enum Coded {
     Value(Duration),
     OutOfRange,
 }
 
-#[derive(Drop)]
+#[derive(Clone, Copy)]
 pub enum Ticks {
     Of(u32),
     OutOfRange,
 }
 
-#[derive(Drop)]
+#[derive(Clone, Copy)]
 pub enum Measured {
     Length(f64),
     OutOfRange,

@@ -16,7 +16,7 @@ use track_events::cut;
 use tracks::has_notes;
 
 // A pass over a track's events: the tick reached, the starts so far, how many of them an off has ended, and the largest end.
-#[derive(Drop)]
+#[derive(Clone, Copy)]
 struct Pass {
     tick: u64,
     started: u32,
@@ -121,7 +121,7 @@ fn end_of_track(counts: &mut [[u32; 128]; 16], deltas: &[u32], words: &[u32]) ->
 }
 
 // The parts so far, and the largest end of their notes.
-#[derive(Drop)]
+#[derive(Clone, Copy)]
 struct Sofar {
     parts: usize,
     end: u64,

@@ -6,14 +6,14 @@ ghost use Rattle.staff.specs.Staffs.{bars_of};
 ghost use Rattle.engraver.specs.Sizes.{size_by, size_of, room_for, StaffWritten};
 
 // A staff's size.
-#[derive(Drop)]
+#[derive(Clone, Copy)]
 pub struct Size {
     pub bars: usize,
     pub items: usize,
 }
 
 // A staff that is written, or that found no room in the outputs: its size.
-#[derive(Drop)]
+#[derive(Clone, Copy)]
 pub struct Written {
     pub fits: bool,
     pub size: Size,

@@ -51,7 +51,7 @@ fn is_off_measure(length: u64, tick: u64, word: u32) -> bool
 }
 
 // What is looked for: events off the measure, of this length, or system events.
-#[derive(Drop)]
+#[derive(Clone, Copy)]
 pub enum Group {
     OffMeasure(u64),
     System,

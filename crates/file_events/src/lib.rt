@@ -11,26 +11,26 @@ use basics::size;
 use track_events::well_formed;
 
 // A variable-length quantity, and where the bytes behind it start.
-#[derive(Drop)]
+#[derive(Clone, Copy)]
 pub struct Quantity {
     pub value: u32,
     pub next: usize,
 }
 
-#[derive(Drop)]
+#[derive(Clone, Copy)]
 pub enum Number {
     Broken,
     Read(Quantity),
 }
 
 // Data of a meta or system event: from where, and where the bytes behind it start.
-#[derive(Drop)]
+#[derive(Clone, Copy)]
 pub struct Span {
     pub from: usize,
     pub to: usize,
 }
 
-#[derive(Drop)]
+#[derive(Clone, Copy)]
 pub enum Data {
     Broken,
     Read(Span),
@@ -38,7 +38,7 @@ pub enum Data {
 
 // What is taken of an event: its word, whether that is in the table of kinds, whether it is an End of Track, the running status behind it (0: none), and
 // where the bytes behind it start.
-#[derive(Drop)]
+#[derive(Clone, Copy)]
 pub struct Taken {
     pub word: u32,
     pub good: bool,
@@ -47,20 +47,20 @@ pub struct Taken {
     pub next: usize,
 }
 
-#[derive(Drop)]
+#[derive(Clone, Copy)]
 pub enum MessageRead {
     Broken,
     Read(Taken),
 }
 
 // An event with its delta.
-#[derive(Drop)]
+#[derive(Clone, Copy)]
 pub struct TimedEvent {
     pub delta: u32,
     pub event: Taken,
 }
 
-#[derive(Drop)]
+#[derive(Clone, Copy)]
 pub enum EventRead {
     Broken,
     Read(TimedEvent),

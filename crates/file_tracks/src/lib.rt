@@ -17,28 +17,28 @@ pub const MTHD: u32 = 1297377380;
 const MTRK: u32 = 1297379947;
 
 // What was gathered: tracks and events counted; bad is 0 where every word is in the table of kinds, else 1.
-#[derive(Drop)]
+#[derive(Clone, Copy)]
 pub struct Gathered {
     pub tracks: usize,
     pub events: usize,
     pub bad: usize,
 }
 
-#[derive(Drop)]
+#[derive(Clone, Copy)]
 pub enum Gathering {
     Broken,
     Read(Gathered),
 }
 
 // A chunk: its type, where its bytes start, and where those behind it start.
-#[derive(Drop)]
+#[derive(Clone, Copy)]
 pub struct Chunk {
     pub kind: u32,
     pub from: usize,
     pub to: usize,
 }
 
-#[derive(Drop)]
+#[derive(Clone, Copy)]
 pub enum ChunkRead {
     Broken,
     Read(Chunk),

@@ -12,20 +12,20 @@ use basics::{MOST_BYTES, MOST_EVENTS, size};
 use file_tracks::{ChunkRead, Gathering, MTHD, gather_tracks, two_bytes};
 
 // How many sizes and how many events a piece has.
-#[derive(Drop)]
+#[derive(Clone, Copy)]
 pub struct PieceSize {
     pub sizes: usize,
     pub events: usize,
 }
 
-#[derive(Drop)]
+#[derive(Clone, Copy)]
 pub enum PieceAnswer {
     Refused(u32),
     Given(PieceSize),
 }
 
 // What a header says, and where the chunks behind it start.
-#[derive(Drop)]
+#[derive(Clone, Copy)]
 pub struct Header {
     pub format: u32,
     pub count: u32,
@@ -33,14 +33,14 @@ pub struct Header {
     pub next: usize,
 }
 
-#[derive(Drop)]
+#[derive(Clone, Copy)]
 pub enum HeaderRead {
     Broken,
     Read(Header),
 }
 
 // A file of which no number is to be given: its division, where its chunks start, how many tracks and events it has.
-#[derive(Drop)]
+#[derive(Clone, Copy)]
 pub struct Examined {
     pub division: u32,
     pub start: usize,
@@ -48,7 +48,7 @@ pub struct Examined {
     pub events: usize,
 }
 
-#[derive(Drop)]
+#[derive(Clone, Copy)]
 pub enum Examination {
     Refused(u32),
     Whole(Examined),

@@ -5,7 +5,7 @@ ghost use Rattle.std.specs.Prelude.{◌<◌, ◌^◌, [], ◌∷◌, ◌≡◌, 
 ghost use Rattle.rules.specs.Diagnostics.{place_of, detail_of};
 ghost use Rattle.findings.specs.Found.{diagnostic_of, event_at, Packs, Found};
 
-#[derive(Drop)]
+#[derive(Clone, Copy)]
 pub struct Diagnostic {
     pub code: u64,
     pub track: u64,

@@ -30,7 +30,7 @@ pub fn is_off_grid(start: u64, p: u64) -> bool
 }
 
 // The tick reached, the notes begun, and those of them off the grid.
-#[derive(Drop)]
+#[derive(Clone, Copy)]
 struct Starts {
     tick: u64,
     ons: u64,

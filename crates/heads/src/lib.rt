@@ -6,7 +6,7 @@ ghost use Rattle.heads.specs.Answers.{HeadCalled, count_answer, part_head_answer
 
 use changes::{Head, PartHead};
 
-#[derive(Drop)]
+#[derive(Clone, Copy)]
 pub enum HeadAnswer {
     Refused(u32),
     Given(Head),
@@ -26,7 +26,7 @@ pub fn head(sizes: &[u32], deltas: &[u32], words: &[u32]) -> HeadAnswer
     HeadAnswer::Given(changes::read_head(first_deltas, first_words))
 }
 
-#[derive(Drop)]
+#[derive(Clone, Copy)]
 pub enum PartCountAnswer {
     Refused(u32),
     Given(u32),
@@ -43,7 +43,7 @@ pub fn part_count(sizes: &[u32], deltas: &[u32], words: &[u32]) -> PartCountAnsw
     PartCountAnswer::Given(opened.parts as u32)
 }
 
-#[derive(Drop)]
+#[derive(Clone, Copy)]
 pub enum PartHeadAnswer {
     Refused(u32),
     Given(PartHead),

@@ -4,7 +4,7 @@ ghost use Rattle.line_text.specs.Text.{Adds};
 ghost use Rattle.item_lines.specs.Items.{bit_key, word_keys, sound_text, letter, item_end, value_text, ties_text, item_line, Keyed};
 
 // Where the page ends, and whether no key is put yet.
-#[derive(Drop)]
+#[derive(Clone, Copy)]
 struct Keys {
     at: usize,
     none: bool,

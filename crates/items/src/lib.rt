@@ -11,7 +11,7 @@ use chords::{Keys, VoiceChord};
 use values::Split;
 
 // A bar's start and end.
-#[derive(Drop)]
+#[derive(Clone, Copy)]
 pub struct Measure {
     pub start: u64,
     pub end: u64,

@@ -9,7 +9,7 @@ use native.Mathlib.Omega.{arith}
 use borrow.Author.Tests.{ltb-false, leb-true, eqb-true, eqb-false, not-false}
 use lib.ListN.{length, take, drop, length-take, length-drop}
 use Rattle.rules.specs.Lists.{All, sum, bit}
-use Rattle.rules.specs.Piece.{Piece, Event, largest_size, division, track_count, event_counts, sizes_agree, well_formed, timecode, ticks_per_quarter, timed, cut_tracks, tracks}
+use Rattle.rules.specs.Piece.{Piece, Event, largest_size, division, track_count, event_counts, sizes_agree, well_formed, timecode, ticks_per_quarter, timed, cut_tracks}
 use Rattle.rules.specs.Refusals.{Result, refused, given, answers, Refusal, unless, first_number, event_refusals, piece_refusals, note_refusals, most_events}
 use Rattle.rules.specs.Refusals.{part_refusals, largest_delta}
 use Rattle.laws.specs.Admitted.{Passes, Admitted, TicksBelow, TicksStayBelow, TicksPerQuarterPositive}

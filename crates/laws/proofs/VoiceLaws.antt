@@ -149,10 +149,12 @@ place_keeps a k vs c s =
     (λ e t. Some-change _ _ (λ v p. later (cut_keeps v p)) s)
   where
     given : (v : Voice) → Some (Has a k) v → Some (Has a k) (give_keys c v)
+    given [] s = elim s [ ]
     given (l ∷ v) (here p) = here (p.0, key_left k l.keys c.keys p.1)
     given (l ∷ v) (later p) = later p
 
     cut_keeps : (v : Voice) → Some (Has a k) v → Some (Has a k) (cut_to c.start v)
+    cut_keeps [] s = elim s [ ]
     cut_keeps (l ∷ v) (here p) = here p
     cut_keeps (l ∷ v) (later p) = later p
 

@@ -3,14 +3,14 @@ ghost use Rattle.rules.specs.Piece.{piece};
 ghost use Rattle.opening.specs.Opening.{NotesOpened, PartOpened};
 
 // A piece: its number, 0 where it is admitted. Then the count of its parts.
-#[derive(Drop)]
+#[derive(Clone, Copy)]
 pub struct Opened {
     pub number: u32,
     pub parts: usize,
 }
 
 // A part: its number, 0 where it is admitted. Then where the part's own track stands.
-#[derive(Drop)]
+#[derive(Clone, Copy)]
 pub struct OpenedPart {
     pub number: u32,
     pub from: usize,

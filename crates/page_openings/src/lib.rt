@@ -19,7 +19,7 @@ use staffs::StaffAnswer;
 
 // Where a page stands: the refusal whose line is ahead, or 0; how many parts there are and which is opened next; whether a part is open, and the
 // spot in it.
-#[derive(Drop)]
+#[derive(Clone, Copy)]
 pub struct Place {
     pub number: u32,
     pub parts: u32,

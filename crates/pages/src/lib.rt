@@ -7,7 +7,7 @@ ghost use Rattle.pages.specs.Steps.{titled_of, item_put, in_voice, Steps, Due, D
 
 // Where a part's page stands: the part and its bars, whether its own line is put, the next count, and the voice whose items are put, with how
 // many of them are left and which is the next.
-#[derive(Drop)]
+#[derive(Clone, Copy)]
 pub struct Spot {
     pub part: u32,
     pub p: u64,
@@ -20,7 +20,7 @@ pub struct Spot {
 }
 
 // What was put: whether nothing was left to put, where the bytes end, and the spot behind it.
-#[derive(Drop)]
+#[derive(Clone, Copy)]
 pub struct Put {
     pub ended: bool,
     pub at: usize,

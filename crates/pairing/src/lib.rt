@@ -11,14 +11,14 @@ ghost use Rattle.pairing.specs.Queues.{Queues};
 ghost use Rattle.pairing.specs.Steps.{IsStart, Wrote, Pushable, Pushed, Queued, Popped, Somewhere, First, Waiting, Taken};
 
 // A start that was taken from its queue: its tick and its event's number.
-#[derive(Drop)]
+#[derive(Clone, Copy)]
 pub struct Start {
     pub tick: u64,
     pub number: u64,
 }
 
 // A start still pending, taken by channel, key, arrival: its queue is channel * 128 + key.
-#[derive(Drop)]
+#[derive(Clone, Copy)]
 pub struct Unclosed {
     pub queue: usize,
     pub tick: u64,
@@ -27,7 +27,7 @@ pub struct Unclosed {
 
 // What an event was: no note event; a start; an off that closed a start, with the start's tick and event number; an off with
 // nothing pending.
-#[derive(Drop)]
+#[derive(Clone, Copy)]
 pub enum Paired {
     Other,
     Started,

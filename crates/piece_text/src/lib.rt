@@ -8,7 +8,7 @@ ghost use Rattle.piece_text.specs.Held.{Counted, Held, PieceHeld, ReadingHeld, A
 use basics::LARGEST_SIZE;
 
 // How far a text is read: the lines ended, whether the line has a byte, the number begun, and whether the text is bad.
-#[derive(Drop)]
+#[derive(Clone, Copy)]
 pub struct Place {
     pub line: u32,
     pub started: bool,
@@ -18,7 +18,7 @@ pub struct Place {
 }
 
 // How many numbers each line has.
-#[derive(Drop)]
+#[derive(Clone, Copy)]
 pub struct Counts {
     pub sizes: usize,
     pub deltas: usize,
@@ -32,7 +32,7 @@ pub struct Reader {
 }
 
 // What a text is: not three lines of decimals, or three lines of so many numbers.
-#[derive(Drop)]
+#[derive(Clone, Copy)]
 pub enum Text {
     Bad,
     Lines(Counts),

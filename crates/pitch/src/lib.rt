@@ -5,7 +5,7 @@ ghost use Rattle.rules.specs.Spelling.{semitone, sounds, C, natural, sharp_names
 ghost use Rattle.pitch.specs.Calls.{step_of, name_of, spelling_of, pitch_of, spelled_answer, either_call};
 ghost use Rattle.rules.specs.Calls.{spelling_call};
 
-#[derive(Drop)]
+#[derive(Clone, Copy)]
 pub enum Step {
     C,
     D,
@@ -16,7 +16,7 @@ pub enum Step {
     B,
 }
 
-#[derive(Drop)]
+#[derive(Clone, Copy)]
 pub struct Pitch {
     pub step: Step,
     pub octave: i8,
@@ -24,7 +24,7 @@ pub struct Pitch {
 }
 
 // A key's spelling; OutOfRange is number 10.
-#[derive(Drop)]
+#[derive(Clone, Copy)]
 pub enum Spelled {
     As(Pitch),
     OutOfRange,

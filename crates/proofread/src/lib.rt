@@ -11,7 +11,7 @@ use basics::MOST_BARS;
 use proofread_staff::Reading;
 
 // Refused, or whether the staff is right.
-#[derive(Drop)]
+#[derive(Clone, Copy)]
 pub enum ReadAnswer {
     Refused(u32),
     Given(bool),

@@ -10,7 +10,7 @@ ghost use Rattle.proofread_items.specs.Playing.{as_item, timed_at, tie_of, fits?
 use proofread_notes::Chord;
 
 // An item of a staff, taken apart. dots is 0 or 1.
-#[derive(Drop)]
+#[derive(Clone, Copy)]
 pub struct Item {
     pub code: u32,
     pub dots: u32,
@@ -23,7 +23,7 @@ pub struct Item {
 }
 
 // A tie-out: where it stands, its keys and mark.
-#[derive(Drop)]
+#[derive(Clone, Copy)]
 pub struct Tie {
     pub tick: u64,
     pub low: u64,
@@ -32,7 +32,7 @@ pub struct Tie {
 }
 
 // A voice as it is read. Where `ok` is false, it has failed and nothing else is known.
-#[derive(Drop)]
+#[derive(Clone, Copy)]
 pub struct Voice {
     pub ok: bool,
     // where the next item starts

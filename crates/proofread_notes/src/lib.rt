@@ -12,7 +12,7 @@ ghost use Rattle.proofread_notes.specs.Columns.{snap_at, Readable, Before, Skipp
 ghost use Rattle.proofread_notes.specs.Chords.{covers?, keysFit?, WithNote, Took, Scanned, Checks};
 
 // A played-back chord: bit k of the low word is for key k, of the high word for key 64 + k.
-#[derive(Drop)]
+#[derive(Clone, Copy)]
 pub struct Chord {
     pub start: u64,
     pub end: u64,
@@ -22,7 +22,7 @@ pub struct Chord {
 }
 
 // What is known of the notes of a start: their keys, and whether one of them ends where the chord does.
-#[derive(Drop)]
+#[derive(Clone, Copy)]
 pub struct Group {
     pub low: u64,
     pub high: u64,
@@ -30,7 +30,7 @@ pub struct Group {
 }
 
 // Whether a chord is as the notes mean it, and the first note that does not start before it.
-#[derive(Drop)]
+#[derive(Clone, Copy)]
 pub struct Checked {
     pub ok: bool,
     pub from: usize,

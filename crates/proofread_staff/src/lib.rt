@@ -13,7 +13,7 @@ ghost use Rattle.proofread_voices.specs.Voices.{Fits};
 ghost use Rattle.proofread_staff.specs.Staffs.{raws_at, headsMean?, Shapes, with_bar, Measures, answer_of, answer_on};
 
 // The bars: how many, the last one's end, and whether each length is a multiple of the smallest written value.
-#[derive(Drop)]
+#[derive(Clone, Copy)]
 pub struct Measured {
     pub bars: usize,
     pub end: u64,
@@ -21,7 +21,7 @@ pub struct Measured {
 }
 
 // The answer: yes, no, or that the part is uneven, so that neither is given.
-#[derive(Drop)]
+#[derive(Clone, Copy)]
 pub enum Reading {
     Yes,
     No,

@@ -14,7 +14,7 @@ ghost use Rattle.raw_notes.specs.Stages.{note_of, NotePut, Pairs, Turn, Turned, 
 use pairing::Paired;
 
 // What was seen of a track: the tick reached, the starts that came, the notes that closed.
-#[derive(Drop)]
+#[derive(Clone, Copy)]
 pub struct Seen {
     pub tick: u64,
     pub starts: usize,

@@ -10,7 +10,7 @@ use replay_text::{Asked, Cursor};
 use replayed::Difference;
 
 // What a call left, against the text: the first difference of the answer, of each list and of the work area, and the place behind the call.
-#[derive(Drop)]
+#[derive(Clone, Copy)]
 pub struct Compared {
     pub said: Difference,
     pub a: Difference,

@@ -20,14 +20,14 @@ pub const LONG: usize = 4;
 pub const ROOM: usize = 45056;
 
 // A place of the text, and the fault that was met, or 0.
-#[derive(Drop)]
+#[derive(Clone, Copy)]
 pub struct Cursor {
     pub at: usize,
     pub fault: usize,
 }
 
 // A number, and the place behind it.
-#[derive(Drop)]
+#[derive(Clone, Copy)]
 pub struct Numbered {
     pub value: u64,
     pub next: Cursor,
@@ -87,7 +87,7 @@ pub fn bounded(text: &[u8], p: Cursor, label: bool, most: u64, why: usize) -> Nu
 }
 
 // How many numbers a list has, and the place behind it.
-#[derive(Drop)]
+#[derive(Clone, Copy)]
 pub struct Listed {
     pub count: usize,
     pub next: Cursor,
@@ -145,7 +145,7 @@ pub fn byte_list(text: &[u8], p: Cursor, out: &mut [u8]) -> Listed
 }
 
 // A list's first difference from an array, and the place behind the list.
-#[derive(Drop)]
+#[derive(Clone, Copy)]
 pub struct Checked {
     pub found: Difference,
     pub next: Cursor,
@@ -208,7 +208,7 @@ pub fn check_narrow(text: &[u8], p: Cursor, scratch: &mut [u64], found: &[u32]) 
 }
 
 // A call that is asked: its number, its part, the room of each array that is lent to it, and the place behind its head.
-#[derive(Drop)]
+#[derive(Clone, Copy)]
 pub struct Asked {
     pub code: usize,
     pub part: u32,

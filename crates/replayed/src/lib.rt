@@ -4,7 +4,7 @@ ghost use Rattle.replayed.specs.Decimals.{digit, begun_by, gone_on_by, stepped, 
 ghost use Rattle.replayed.specs.Differences.{others, bit, difference};
 
 // What is known of a number while its text is read.
-#[derive(Drop)]
+#[derive(Clone, Copy)]
 pub enum Scanned {
     // No digit of it was read yet.
     Before,
@@ -90,7 +90,7 @@ pub fn is_ended(s: Scanned) -> bool
 }
 
 // Where reading stopped, and what it knows.
-#[derive(Drop)]
+#[derive(Clone, Copy)]
 pub struct Stopped {
     pub found: Scanned,
     pub at: usize,
@@ -153,7 +153,7 @@ pub fn clear_front(l: &mut [u32], n: usize)
     clear(&mut l[..n]);
 }
 
-#[derive(Drop)]
+#[derive(Clone, Copy)]
 pub enum Difference {
     At(usize),
     Nothing,

@@ -10,7 +10,7 @@ use replay_one::Compared;
 use replay_text::{Cursor, Listed, Numbered};
 
 // The state of a run: the place in the text, and how many pieces, calls and disagreements there were.
-#[derive(Drop)]
+#[derive(Clone, Copy)]
 pub struct Run {
     pub next: Cursor,
     pub pieces: u64,
@@ -121,7 +121,7 @@ fn each_call(
 }
 
 // A piece or file that was read to the fronts of arrays: 1 where its number is another than is due, the length of each array, and the place behind it.
-#[derive(Drop)]
+#[derive(Clone, Copy)]
 struct Given {
     other: u64,
     sizes: usize,

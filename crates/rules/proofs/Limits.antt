@@ -11,7 +11,7 @@ use Rattle.rules.specs.Lists.{keep, any, sum}
 use Rattle.rules.specs.Piece.{Piece, Event, timed, cut_tracks, sizes_agree, well_formed, word}
 use Rattle.rules.specs.RawNotes.{has_notes, parts}
 use Rattle.rules.specs.Refusals.{Refusal, unless, event_refusals, piece_refusals, work_needed}
-use Rattle.rules.specs.Calls.{head_call, diagnostics_call}
+use Rattle.rules.specs.Calls.{diagnostics_call}
 use Rattle.rules.specs.RefusalExamples.{number_of, many_events, many_tracks, many_notes, AtTheLimits}
 
 -- a work area has some words

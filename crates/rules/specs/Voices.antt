@@ -1,5 +1,5 @@
 -- Section 5, Voices: a part's chords, and their four voices. The grid g and the notes are given apart.
-use Rattle.std.specs.Prelude.{ℕ, zero, suc, ◌+◌, ◌-◌, ◌*◌, ◌^◌, Bool, true, false, cond, ◌&&◌, eqb, leb, get_or, set}
+use Rattle.std.specs.Prelude.{ℕ, zero, ◌+◌, ◌-◌, ◌*◌, ◌^◌, Bool, true, false, cond, ◌&&◌, eqb, leb, get_or, set}
 use mathlib.Core.List.{List, [], ◌∷◌, map, foldl, reverse}
 use Rattle.std.specs.Int.Bits.{bit_or}
 use Rattle.rules.specs.Lists.{any, every, position, change_first, sort_by}

@@ -32,7 +32,7 @@ fn put_number(write: bool, out: &mut [u32], at: usize, number: u64)
 }
 
 // Where a voice has come to: the place behind its items, and its next chord.
-#[derive(Drop)]
+#[derive(Clone, Copy)]
 pub struct Reached {
     pub at: usize,
     pub next: usize,

@@ -11,7 +11,7 @@ ghost use Rattle.staffs.specs.Parts.{answer_of, HasTrack, TrackVoices, PartVoice
 use basics::MOST_BARS;
 use engraver::{Size, Written};
 
-#[derive(Drop)]
+#[derive(Clone, Copy)]
 pub enum StaffAnswer {
     Refused(u32),
     Given(Size),

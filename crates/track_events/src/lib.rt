@@ -1,10 +1,12 @@
 // Events: words taken apart, in one place, by section 1's table of kinds. Tracks: one cut out of a piece's arrays.
+#![tactic(auto)]
+
 ghost use Rattle.std.specs.Prelude.{◌≡◌, ◌&&◌, leb, length, ◌+◌, ◌≤◌, ◌<◌};
 ghost use Rattle.rules.specs.Piece.{kind_of, byte_a, byte_b, well_formed, is_on, is_off, tempo_value};
 ghost use Rattle.track_events.specs.Track.{IsWord, stretch};
 
 // A word's four bytes, from the top.
-#[derive(Drop)]
+#[derive(Clone, Copy)]
 pub struct Word {
     pub kind: u32,
     pub a: u32,

@@ -9,7 +9,7 @@ use basics::{MOST_PARTS, size, wide};
 use track_events::{block_end, cut, is_on};
 
 // A track as a stretch of deltas and words: &deltas[from..to] and &words[from..to].
-#[derive(Drop)]
+#[derive(Clone, Copy)]
 pub struct Span {
     pub from: usize,
     pub to: usize,

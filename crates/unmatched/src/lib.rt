@@ -39,7 +39,7 @@ fn unmatched_on(track: u64, u: Unclosed) -> Diagnostic
 }
 
 // What was seen of a track: the tick reached, the starts that came, those that wait, and where the next diagnostic goes.
-#[derive(Drop)]
+#[derive(Clone, Copy)]
 struct Seen {
     tick: u64,
     starts: usize,

@@ -55,7 +55,7 @@ fn first_entry(values: &[u64; 18], ticks: u64) -> usize
 }
 
 // How many pieces a span takes, and the ticks that none of them takes.
-#[derive(Drop)]
+#[derive(Clone, Copy)]
 pub struct Count {
     pub pieces: u64,
     pub left: u64,
@@ -98,7 +98,7 @@ fn word(i: usize, bits: u32) -> u32
 }
 
 // A span that was split: the place behind its pieces, and the ticks that none of them took.
-#[derive(Drop)]
+#[derive(Clone, Copy)]
 pub struct Split {
     pub at: usize,
     pub left: u64,

@@ -19,7 +19,7 @@ pub struct Voices {
 }
 
 // What becomes of a chord, with the voice's number: the voice is free for it, its last chord takes the keys, or it is cut for it.
-#[derive(Drop)]
+#[derive(Clone, Copy)]
 pub enum Choice {
     Free(usize),
     Together(usize),
