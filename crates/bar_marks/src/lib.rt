@@ -1,4 +1,6 @@
 // A bar's mark, what is printed on the bar, as one number: packed and unpacked in one place.
+#![tactic(auto)]
+
 ghost use Rattle.std.specs.Prelude.{◌≤◌, ◌≡◌};
 ghost use Rattle.rules.specs.Lists.{flag};
 ghost use Rattle.bar_marks.specs.Marks.{packed, unpacked};
