@@ -1,4 +1,6 @@
 // Texts that stand one behind another in a list of bytes, a zero between them.
+#![tactic(auto)]
+
 ghost use Rattle.std.specs.Prelude.{◌≤◌, length};
 
 // Where the text at from ends: at the next zero, or at the end.
