@@ -10,7 +10,7 @@ use native.Mathlib.Omega.{arith}
 use lib.Dec.{ltb}
 use lib.ListN.{length, get_or, drop, length-take, drop_of_length-le}
 use lib.Seq.{drop-cons, drop-drop, get_or-take}
-use Rattle.rules.specs.Lists.{any, keep, sum, largest, flag}
+use Rattle.rules.specs.Lists.{any, keep, sum, largest}
 use Rattle.rules.specs.Piece.{Piece, Event, piece, timed, cut_tracks, tracks, sizes_agree, is_on}
 use Rattle.rules.specs.RawNotes.{has_notes, parts, most_parts, most_notes}
 use Rattle.laws.specs.Admitted.{Admitted}
@@ -19,7 +19,6 @@ use Rattle.track_events.specs.Track.{Track, events_of, stretch}
 use Rattle.track_events.proofs.Tracks.{length_stretch, track_part}
 use Rattle.laws.proofs.Loops.{any_count, sum_left}
 use Rattle.laws.proofs.Order.{by_bool}
-use Rattle.laws.proofs.Tests.{keep_few}
 use Rattle.tracks.specs.declared.Span.{Span}
 use Rattle.tracks.specs.Spans.{IsSpan, FirstSpan}
 

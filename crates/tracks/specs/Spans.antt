@@ -1,6 +1,6 @@
 -- What the calls over a whole piece answer: a track's stretch of the arrays.
 use Rattle.std.specs.Prelude.{ℕ, ◌≤◌, true, List, ◌≡◌, length}
-use Rattle.rules.specs.Piece.{Piece, Event, piece, sizes_agree, first_track}
+use Rattle.rules.specs.Piece.{Event, piece, sizes_agree, first_track}
 use Rattle.track_events.specs.Track.{events_of, stretch}
 use Rattle.tracks.specs.declared.Span.{Span}
 

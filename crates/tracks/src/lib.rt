@@ -1,4 +1,6 @@
 // The tracks of a piece: its ticks per quarter, first track and parts.
+#![tactic(auto)]
+
 ghost use Rattle.std.specs.Prelude.{◌+◌, ◌-◌, ◌≤◌, ◌<◌, max, true, [], ◌≡◌, length, get_or, drop};
 ghost use Rattle.rules.specs.Lists.{any, keep};
 ghost use Rattle.rules.specs.Piece.{piece, sizes_agree, ticks_per_quarter, is_on};
