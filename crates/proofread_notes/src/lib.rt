@@ -5,11 +5,13 @@
 //    1    its start and key, start * 128 + key
 //    2    1 if a chord of its snapped start has its key, else 0
 // The notes are in order of their starts, so those of one snapped start stand together.
+#![tactic(auto)]
+
 ghost use Rattle.std.specs.Prelude.{◌+◌, ◌*◌, ◌^◌, ◌≤◌, ◌<◌, not, ◌||◌, ◌≡◌, eqb, ltb, length};
 ghost use Rattle.rules.specs.Grid.{snap};
-ghost use Rattle.rules.specs.ProofReaderTests.{hasKey?};
-ghost use Rattle.proofread_notes.specs.Columns.{snap_at, Readable, Before, Skipped, Cleared, allFound?};
-ghost use Rattle.proofread_notes.specs.Chords.{covers?, keysFit?, WithNote, Took, Scanned, Checks};
+ghost use Rattle.rules.specs.ProofReaderTests.{has_key?};
+ghost use Rattle.proofread_notes.specs.Columns.{snap_at, Readable, Before, Skipped, Cleared, all_found?};
+ghost use Rattle.proofread_notes.specs.Chords.{covers?, keys_fit?, WithNote, Took, Scanned, Checks};
 
 // A played-back chord: bit k of the low word is for key k, of the high word for key 64 + k.
 #[derive(Clone, Copy)]
@@ -65,7 +67,7 @@ fn end_of(work: &[u64], n: usize, m: usize, g: u64, i: usize) -> u64
 // Whether two words of keys have a key.
 fn has_key(low: u64, high: u64, key: u64) -> bool
     requires { key < 128 }
-    ensures { result ≡ hasKey? key (low + high * 2 ^ 64) }
+    ensures { result ≡ has_key? key (low + high * 2 ^ 64) }
 {
     if key < 64 {
         (low >> key) % 2 == 1
@@ -160,7 +162,7 @@ fn covers(low: u64, all: u64) -> bool
 
 // Whether each key of the chord is that of a note of its start, one before the last bar's end.
 fn keys_meant(c: Chord, x: Group, e: u64) -> bool
-    ensures { result ≡ keysFit? c x e }
+    ensures { result ≡ keys_fit? c x e }
 {
     if c.start < e {
         if covers(c.low, x.low) {
@@ -241,7 +243,7 @@ fn found(start: u64, mark: u64, e: u64) -> bool
 // Whether each note that starts before the last bar's end is marked.
 pub fn all_found(work: &[u64], n: usize, m: usize, g: u64, e: u64) -> bool
     requires { Readable g n m work.now }
-    ensures { result ≡ allFound? g n m e work.now }
+    ensures { result ≡ all_found? g n m e work.now }
 {
     let mut i = 0;
     while i < m {
