@@ -10,7 +10,7 @@ fi
 mkdir -p "$1/include" "$1/lib/pkgconfig"
 prefix=$(cd "$1" && pwd)
 cd "$(dirname "$0")"
-if ! said=$(rt check acorde 2>&1 && rt staticlib acorde 2>&1); then
+if ! said=$(rt lib acorde 2>&1); then
     echo "$said" >&2
     exit 1
 fi
@@ -18,7 +18,7 @@ fi
 # The version is the header's. The folders are found from where acorde.pc is, so that all of PREFIX can be moved.
 version=$(sed -n 's/^#define ACORDE_VERSION "\(.*\)"$/\1/p' include/acorde.h)
 cp include/acorde.h "$prefix/include/acorde.h"
-cp target/staticlib/libacorde.a "$prefix/lib/libacorde.a"
+cp crates/acorde/out/libacorde.a "$prefix/lib/libacorde.a"
 cat > "$prefix/lib/pkgconfig/acorde.pc" << END
 prefix=\${pcfiledir}/../..
 

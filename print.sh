@@ -17,12 +17,13 @@ exec 3< "$copy"
 rm "$copy"
 
 cd "$(dirname "$0")"
-binary=target/bin/$program
-if [ ! -x "$binary" ] || [ -n "$(find crates crates.txt -newer "$binary" -print -quit)" ]; then
+binary=crates/$program/out/$program
+changed() { find crates crates.txt -name out -prune -o -type f -newer "$binary" -print -quit; }
+if [ ! -x "$binary" ] || [ -n "$(changed)" ]; then
     echo "$program is proved and built first, some minutes; each crate as it is done:" >&2
     said=$(mktemp)
     trap 'rm -f "$said"' EXIT
-    if ! rt check "$program" < /dev/null 2>&1 | tee "$said" | sed -un 's/^rt: /  /p' >&2; then
+    if ! rt run "$program" < /dev/null 2>&1 > /dev/null | tee "$said" | sed -un 's/^rt: /  /p' >&2; then
         cat "$said" >&2
         exit 1
     fi

@@ -39,10 +39,10 @@ fn run(command: &mut Command) {
     assert!(status.success(), "{command:?}");
 }
 
-/// libacorde.a of the folder that ACORDE_LIBRARY names, else of the one that `rt staticlib` fills.
+/// libacorde.a of the folder that ACORDE_LIBRARY names, else of the one that `rt lib acorde` fills.
 fn link_library() {
     let package = env::var("CARGO_MANIFEST_DIR").expect("cargo sets CARGO_MANIFEST_DIR");
-    let named = env::var("ACORDE_LIBRARY").unwrap_or("../target/staticlib".into());
+    let named = env::var("ACORDE_LIBRARY").unwrap_or("../crates/acorde/out".into());
     let folder = Path::new(&package).join(named);
     let library = folder.join("libacorde.a");
     println!("cargo::rerun-if-env-changed=ACORDE_LIBRARY");

@@ -4,7 +4,7 @@
 # 1 where something differs. CC may name the compiler.
 set -eu
 cd "$(dirname "$0")/.."
-library=target/staticlib/libacorde.a
+library=crates/acorde/out/libacorde.a
 programs=target/examples
 flags="-std=c99 -Wall -Wextra -Werror -pedantic -Iinclude"
 
@@ -16,7 +16,7 @@ if [ "$(number "")" != "$(number _MAJOR).$(number _MINOR).$(number _PATCH)" ] ||
     exit 1
 fi
 
-[ -f "$library" ] || { rt check acorde && rt staticlib acorde; }
+[ -f "$library" ] || rt lib acorde
 mkdir -p "$programs"
 for name in first import; do
     ${CC:-gcc} $flags "examples/$name.c" "$library" -o "$programs/$name"

@@ -1,7 +1,7 @@
 #!/usr/bin/env python3
 """Damages the stored list in many ways and runs the program `replay` on each: what is printed must say so.
 
-    python3 damage.py [TIMES]      in this folder, after `rt check replay`; so many places for each kind of damage
+    python3 damage.py [TIMES]      in this folder, after `rt run replay`; so many places for each kind of damage
 """
 import random
 import re
@@ -10,7 +10,7 @@ import sys
 from pathlib import Path
 
 ROOT = Path(__file__).resolve().parents[2]
-PROGRAM = ROOT / "target/bin/replay"
+PROGRAM = ROOT / "crates/replay/out/replay"
 LIST = (ROOT / "crates/replay/stdin").read_bytes()
 # In these places another number may be as right: a velocity that no answer shows, a room that is still enough, a file that
 # is refused as before, a staff that gets the same answer.

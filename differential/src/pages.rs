@@ -10,7 +10,7 @@ use std::io::{self, Write};
 use std::process::{Command, Output, Stdio};
 use std::time::{Duration, Instant};
 
-const FOLDER: &str = concat!(env!("CARGO_MANIFEST_DIR"), "/../target/bin");
+const FOLDER: &str = concat!(env!("CARGO_MANIFEST_DIR"), "/../crates");
 
 /// One program's runs.
 struct Pages {
@@ -101,7 +101,7 @@ impl Pages {
 /// What a program makes of an input.
 fn run(program: &str, input: &[u8]) -> Result<Output, String> {
     let whole = || -> io::Result<Output> {
-        let mut child = Command::new(format!("{FOLDER}/{program}"))
+        let mut child = Command::new(format!("{FOLDER}/{program}/out/{program}"))
             .stdin(Stdio::piped())
             .stdout(Stdio::piped())
             .spawn()?;
@@ -113,7 +113,7 @@ fn run(program: &str, input: &[u8]) -> Result<Output, String> {
         })
     };
     whole().map_err(|error| {
-        format!("../target/bin/{program}: {error} (`rt check {program}` builds it)")
+        format!("../crates/{program}/out/{program}: {error} (`rt run {program}` builds it)")
     })
 }
 
