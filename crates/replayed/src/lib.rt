@@ -1,4 +1,6 @@
 // What a replay does on slices: decimals read from a text byte by byte, numbers put into arrays before they are lent, and the first index at which lists differ.
+#![tactic(auto)]
+
 ghost use Rattle.std.specs.Prelude.{◌≤◌, ◌≡◌, ◌++◌, length, drop, replicate};
 ghost use Rattle.replayed.specs.Decimals.{digit, begun_by, gone_on_by, stepped, ended, scanned};
 ghost use Rattle.replayed.specs.Differences.{others, bit, difference};
