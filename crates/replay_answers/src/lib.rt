@@ -1,4 +1,6 @@
 // An answer put down as numbers, from the front: the refusal's alone, or 0 and the values.
+#![tactic(auto)]
+
 ghost use Rattle.std.specs.Prelude.{◌≤◌, [], ◌∷◌, ◌≡◌, pos, ◌+ℤ◌, nat_abs, length};
 ghost use Rattle.rules.specs.Lists.{flag, written};
 

@@ -1,0 +1,20 @@
+-- `say_four` puts 0 and its values in front: a run of stores, each within the eight.
+use mathlib.Core.List.{[], ◌∷◌}
+use native.Mathlib.Omega.{arith}
+use lib.Seq.{lt-length-sets, sets-eq}
+use Rattle.replay_answers.proofs.say_four.Goals as goal
+
+pub bounds-said-1 : goal.bounds-said-1
+bounds-said-1 c = lt-length-sets c.args.said.now 0 (0 ∷ []) (omega arith)
+
+pub bounds-said-2 : goal.bounds-said-2
+bounds-said-2 c = lt-length-sets c.args.said.now 0 (0 ∷ c.args.a ∷ []) (omega arith)
+
+pub bounds-said-3 : goal.bounds-said-3
+bounds-said-3 c = lt-length-sets c.args.said.now 0 (0 ∷ c.args.a ∷ c.args.b ∷ []) (omega arith)
+
+pub bounds-said-4 : goal.bounds-said-4
+bounds-said-4 c = lt-length-sets c.args.said.now 0 (0 ∷ c.args.a ∷ c.args.b ∷ c.args.c ∷ []) (omega arith)
+
+pub returns : goal.returns
+returns c = sets-eq (0 ∷ c.args.a ∷ c.args.b ∷ c.args.c ∷ c.args.d ∷ []) c.args.said.now 0 (omega arith)
