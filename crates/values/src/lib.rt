@@ -1,4 +1,6 @@
 // Written values: the lengths of a staff's values, and the split of a span into them.
+#![tactic(auto)]
+
 ghost use Rattle.std.specs.Prelude.{ℕ, ◌+◌, ◌*◌, ◌-◌, ◌/◌, ◌%◌, ◌<◌, ◌≤◌, ◌^◌, ◌&&◌, ◌≡◌, leb, ltb, length};
 ghost use Rattle.values.specs.Table.{entry_of, table_of, Skips, Room, Counts, Spanned};
 
