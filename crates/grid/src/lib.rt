@@ -1,4 +1,6 @@
 // The grid that a part's notes are snapped to.
+#![tactic(auto)]
+
 ghost use Rattle.std.specs.Prelude.{◌<◌, ◌≤◌, ◌^◌, max, ◌≡◌};
 ghost use Rattle.rules.specs.Grid.{sixteenth, is_off_grid, grid, snap};
 ghost use Rattle.rules.specs.Piece.{largest_size};
