@@ -24,39 +24,39 @@ FOLDER = HERE / "target/definitions"
 HEADER = """-- Written by differential/definitions/compare.py: the definitions computed on generated pieces.
 use Prim.Native.Nat.{ℕ}
 use mathlib.Core.Bool.{Bool}
-use mathlib.Core.List.{List, [], _∷_, _++_, flatMap, flatten}
-use mathlib.Core.Path.{_≡_, refl}
-use Rattle·rules.specs.Lists.{keep, any, every, position, changeFirst, insert, sortBy, below, sum, flag}
-use Rattle·rules.specs.Piece.{Piece, Event, timed, cutTracks, sizesAgree, wellFormed, ticksPerQuarter}
-use Rattle·rules.specs.RawNotes.{withoutOldest, pairOne, rawNotesOf, parts, mostNotes}
-use Rattle·rules.specs.Changes.{partHead, head}
-use Rattle·rules.specs.Bars.{barsFrom, endOfPiece, barsUpTo, starts, printedFrom, marksFrom, marks, keyBits}
-use Rattle·rules.specs.Grid.{isOffGrid, grid}
-use Rattle·rules.specs.Voices.{joinOrOpen, choose, place, voices}
-use Rattle·rules.specs.Values.{values, splitIn, twos}
-use Rattle·rules.specs.Staff.{pieces, filled, voiceIn, filledLeft, voiceLeft}
-use Rattle·rules.specs.Items.{StaffArrays, readItems, cutBy, byFours}
-use Rattle·rules.specs.ProofReader.{timedFrom, voiceTimed, heardAfter}
-use Rattle·rules.specs.ProofReaderTests.{full?, tied?, endsMeant?, right?, shaped?, even?}
-use Rattle·rules.specs.Automation.{cancelled, sameMessages, isDropped, AutomationLists, automationLists}
-use Rattle·rules.specs.Diagnostics.{inTracks, diagnostics}
-use Rattle·rules.specs.Refusals.{Result, refused, given as answer, unless, eventRefusals, pieceRefusals}
-use Rattle·rules.specs.Calls.{partArrays, partLeftovers, headCall, diagnosticsCall, places, details, partTrack, proofReadCall}
-use Rattle·rules.specs.Examples.{Row, row, given, wanted}
+use mathlib.Core.List.{List, [], ◌∷◌, ◌++◌, flat_map, flatten}
+use mathlib.Core.Path.{◌≡◌, refl}
+use Rattle.rules.specs.Lists.{keep, any, every, position, change_first, insert, sort_by, below, sum, flag}
+use Rattle.rules.specs.Piece.{Piece, Event, timed, cut_tracks, sizes_agree, well_formed, ticks_per_quarter}
+use Rattle.rules.specs.RawNotes.{without_oldest, pair_one, raw_notes_of, parts, most_notes}
+use Rattle.rules.specs.Changes.{part_head, head}
+use Rattle.rules.specs.Bars.{bars_from, end_of_piece, bars_up_to, starts, printed_from, marks_from, marks, key_bits}
+use Rattle.rules.specs.Grid.{is_off_grid, grid}
+use Rattle.rules.specs.Voices.{join_or_open, choose, place, voices}
+use Rattle.rules.specs.Values.{values, split_in, twos}
+use Rattle.rules.specs.Staff.{pieces, filled, voice_in, filled_left, voice_left}
+use Rattle.rules.specs.Items.{StaffArrays, read_items, cut_by, by_fours}
+use Rattle.rules.specs.ProofReader.{timed_from, voice_timed, heard_after}
+use Rattle.rules.specs.ProofReaderTests.{full?, tied?, ends_meant?, right?, shaped?, even?}
+use Rattle.rules.specs.Automation.{cancelled, same_messages, is_dropped, AutomationLists, automation_lists}
+use Rattle.rules.specs.Diagnostics.{in_tracks, diagnostics}
+use Rattle.rules.specs.Refusals.{Result, refused, given as answer, unless, event_refusals, piece_refusals}
+use Rattle.rules.specs.Calls.{part_arrays, part_leftovers, head_call, diagnostics_call, places, details, part_track, proof_read_call}
+use Rattle.rules.specs.Examples.{Row, row, given, wanted}
 
-abbrev numberOf : {A : Type 0} → Result A → ℕ
-numberOf (refused n) = n
-numberOf (answer a) = 0
+abbrev number_of : {A : Type 0} → Result A → ℕ
+number_of (refused n) = n
+number_of (answer a) = 0
 
-abbrev headRow : Piece → List ℕ
-headRow x = head x .tempo ∷ head x .meter .upper ∷ head x .meter .lower ∷ keyBits (head x .key) ∷ []
+abbrev head_row : Piece → List ℕ
+head_row x = (head x).tempo ∷ (head x).meter.upper ∷ (head x).meter.lower ∷ key_bits ((head x).key) ∷ []
 
-abbrev partHeads : List (List Event) → List ℕ
-partHeads [] = []
-partHeads (p ∷ ps) = partHead p .channel ∷ partHead p .program ∷ partHeads ps
+abbrev part_heads : List (List Event) → List ℕ
+part_heads [] = []
+part_heads (p ∷ ps) = (part_head p).channel ∷ (part_head p).program ∷ part_heads ps
 
-abbrev automationRow : AutomationLists → List ℕ
-automationRow a = a .bends ∷ a .controllers ∷ a .programs ∷ a .pressures ∷ (a .ticks ++ a .words)
+abbrev automation_row : AutomationLists → List ℕ
+automation_row a = a.bends ∷ a.controllers ∷ a.programs ∷ a.pressures ∷ (a.ticks ++ a.words)
 
 abbrev staff : List ℕ → List ℕ → List ℕ → StaffArrays
 staff counts heads keys = record { counts = counts; heads = heads; keys = keys }
@@ -66,14 +66,14 @@ reading (refused n) = n ∷ 0 ∷ []
 reading (answer right) = 0 ∷ flag right ∷ []
 """
 
-UNFOLDED = """keep any every position changeFirst insert sortBy sum flatMap flatten sizesAgree wellFormed timed cutTracks
-    withoutOldest pairOne rawNotesOf mostNotes joinOrOpen choose place voices grid isOffGrid values splitIn pieces filled
-    voiceIn filledLeft voiceLeft barsFrom endOfPiece barsUpTo printedFrom marksFrom cancelled sameMessages isDropped
-    automationLists inTracks diagnostics unless eventRefusals pieceRefusals"""
+UNFOLDED = """keep any every position change_first insert sort_by sum flat_map flatten sizes_agree well_formed timed cut_tracks
+    without_oldest pair_one raw_notes_of most_notes join_or_open choose place voices grid is_off_grid values split_in pieces filled
+    voice_in filled_left voice_left bars_from end_of_piece bars_up_to printed_from marks_from cancelled same_messages is_dropped
+    automation_lists in_tracks diagnostics unless event_refusals piece_refusals"""
 
-READING = """keep any every insert sortBy below sum flatMap sizesAgree wellFormed timed cutTracks withoutOldest pairOne
-    rawNotesOf mostNotes grid isOffGrid twos barsFrom endOfPiece barsUpTo readItems cutBy byFours timedFrom voiceTimed
-    heardAfter full? tied? endsMeant? right? shaped? even? unless eventRefusals pieceRefusals"""
+READING = """keep any every insert sort_by below sum flat_map sizes_agree well_formed timed cut_tracks without_oldest pair_one
+    raw_notes_of most_notes grid is_off_grid twos bars_from end_of_piece bars_up_to read_items cut_by by_fours timed_from voice_timed
+    heard_after full? tied? ends_meant? right? shaped? even? unless event_refusals piece_refusals"""
 
 KINDS = ["bend", "controller", "program", "pressure"]
 
@@ -118,8 +118,8 @@ def staff_rows(name, part, bars, lines):
         head, mask = item(named)
         heads.append(head)
         keys += [mask % 2**64, mask >> 64]
-    arrays = f"partArrays {name} {part}"
-    return [(f"{arrays} .counts", counts), (f"{arrays} .heads", heads), (f"{arrays} .keys", keys)]
+    arrays = f"part_arrays {name} {part}"
+    return [(f"({arrays}).counts", counts), (f"({arrays}).heads", heads), (f"({arrays}).keys", keys)]
 
 
 def leftovers_row(name, part, bars, lines):
@@ -127,14 +127,14 @@ def leftovers_row(name, part, bars, lines):
     for line in lines:
         words, named = fields(line)
         left[4 * (int(words[2]) - 1) + int(words[3])] = int(named["ticks"])
-    return f"partLeftovers {name} {part}", left
+    return f"part_leftovers {name} {part}", left
 
 
 def automation_row(name, part, lines):
     split = [line.split() for line in lines]
     counts = [sum(words[2] == kind for words in split) for kind in KINDS]
     values = counts + [int(words[4]) for words in split] + [int(words[6]) for words in split]
-    return f"automationRow (automationLists (ticksPerQuarter {name}) (partTrack {name} {part}))", values
+    return f"automation_row (automation_lists (ticks_per_quarter {name}) (part_track {name} {part}))", values
 
 
 def diagnostic(line):
@@ -150,12 +150,12 @@ def rows(name, text):
     lines = text.splitlines()
     of = lambda word, part=None: [l for l in lines if l.split()[0] == word and (part is None or int(l.split()[1]) == part)]
     number = int(of("refused")[0].split()[1]) if of("refused") else 0
-    out = [(f"numberOf (headCall {name}) ∷ []", [number])]
+    out = [(f"number_of (head_call {name}) ∷ []", [number])]
     if number == 0:
         named = fields(of("head")[0])[1]
-        out.append((f"headRow {name}", [int(named["tempo"])] + meter(named["meter"]) + [key_bits(named["key"])]))
+        out.append((f"head_row {name}", [int(named["tempo"])] + meter(named["meter"]) + [key_bits(named["key"])]))
         parts = [fields(l)[1] for l in of("part")]
-        out.append((f"partHeads (parts {name})", [int(p[k]) for p in parts for k in ("channel", "program")]))
+        out.append((f"part_heads (parts {name})", [int(p[k]) for p in parts for k in ("channel", "program")]))
         bars = [fields(l)[1] for l in of("bar")]
         out.append((f"starts {name}", [int(b["start"]) for b in bars]))
         out.append((f"marks {name}", [bar_mark(b) for b in bars]))
@@ -165,7 +165,7 @@ def rows(name, text):
             out.append(automation_row(name, part, of("automation", part)))
     if number in (0, 6):
         found = [diagnostic(l) for l in of("diagnostic")]
-        out.append((f"numberOf (diagnosticsCall {name} 1000000 1000000 100000000) ∷ []", [0]))
+        out.append((f"number_of (diagnostics_call {name} 1000000 1000000 100000000) ∷ []", [0]))
         out.append((f"places {name}", [place for place, _ in found]))
         out.append((f"details {name}", [detail for _, detail in found]))
     return out

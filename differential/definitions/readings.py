@@ -43,7 +43,7 @@ class Readings:
         """What is asked about a piece, and what the plain proof-reader answered."""
         first, *lines = text.splitlines()
         word, number = first.split()
-        call = lambda part, arrays, work: f"reading (proofReadCall {name} {part} (staff {arrays}) {work})"
+        call = lambda part, arrays, work: f"reading (proof_read_call {name} {part} (staff {arrays}) {work})"
         if word == "refused":
             return [self.turned_back(call(0, "[] [] []", 100000), int(number))]
         work, out, parts = int(number), [], 0
