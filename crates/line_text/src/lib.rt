@@ -1,4 +1,6 @@
 // Bytes, texts and numbers in decimal, put into a page one behind another.
+#![tactic(auto)]
+
 ghost use Rattle.std.specs.Prelude.{◌+◌, ◌≤◌, [], ◌∷◌, length};
 ghost use Rattle.line_text.specs.Text.{decimal as Text·decimal, Adds};
 
