@@ -1,4 +1,6 @@
 // Section 3: tempo, meter and key changes, the head of a piece and the head of a part.
+#![tactic(auto)]
+
 ghost use Rattle.std.specs.Prelude.{◌<◌, ◌≡◌, true};
 ghost use Rattle.rules.specs.Piece.{byte_b, lower_figure, signed_fifths, well_formed};
 ghost use Rattle.rules.specs.Changes.{tempo_of, clamp_fifths, head_in};

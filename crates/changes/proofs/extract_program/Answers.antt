@@ -1,10 +1,7 @@
-use Prim.Native.Nat.{◌≤◌, ◌-◌}
-use mathlib.Core.Path.{◌≡◌, sym, ap, ◌∙◌}
+use mathlib.Core.Path.{sym, ap, ◌∙◌}
 use native.Mathlib.Omega.{arith}
-use borrow.Author.Rules.{rules}
-use lib.ListN.{length, drop}
 use Rattle.rules.specs.Changes as rules
-use Rattle.changes.proofs.ProgramLaws.{program_in, program_is, program_here, program_on, program_none}
+use Rattle.changes.proofs.ProgramLaws.{program_is, program_here, program_on, program_none}
 use Rattle.changes.proofs.extract_program.Goals as goal
 
 pub returns-then-x-eq12 : goal.returns-then-x-eq12

@@ -1,11 +1,8 @@
 -- `extract_program` answers the first program change. The loop's invariant: it is that of the words from `i` on.
 use Prim.Native.Nat.{◌≤◌, ◌-◌}
-use mathlib.Core.Path.{◌≡◌, sym, ap, ◌∙◌}
-use native.Mathlib.Omega.{arith}
-use borrow.Author.Rules.{rules}
+use mathlib.Core.Path.{◌≡◌}
 use lib.ListN.{length, drop}
-use Rattle.rules.specs.Changes as rules
-use Rattle.changes.proofs.ProgramLaws.{program_in, program_is, program_here, program_on, program_none}
+use Rattle.changes.proofs.ProgramLaws.{program_in}
 use Rattle.changes.proofs.extract_program.Given as goal
 
 abbrev pub invariant-loop-i : goal.invariant-loop-i

@@ -1,6 +1,5 @@
 -- `lower_of` answers the lower figure: the shift by a power below 32 loses no bit.
 use native.Mathlib.Nat.{one-mul, mod-eq_of_lt}
-use borrow.Author.Rules.{rules}
 use lib.Pow.{pow-lt}
 use Rattle.changes.proofs.lower_of.Goals as goal
 

@@ -1,10 +1,9 @@
-use Prim.Native.Nat.{◌≤◌, ◌<◌, ◌-◌}
+use Prim.Native.Nat.{◌<◌}
 use native.Mathlib.Omega.{arith}
-use borrow.Author.Rules.{rules}
 use lib.ListN.{length}
-use Rattle.track_events.specs.Track.{events_of, left}
+use Rattle.track_events.specs.Track.{left}
 use Rattle.track_events.proofs.Tracks.{formed_at, left_none}
-use Rattle.changes.proofs.HeadLaws.{Reads, reads_start, reads_next, reads_end, left_late}
+use Rattle.changes.proofs.HeadLaws.{reads_start, reads_next, reads_end, left_late}
 use Rattle.changes.proofs.read_head.Goals as goal
 
 pub loop-i-init : goal.loop-i-init

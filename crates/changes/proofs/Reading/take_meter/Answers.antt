@@ -1,5 +1,4 @@
 -- `take_meter` takes a meter that is the first: the figures are the word's.
-use borrow.Author.Rules.{rules}
 use Rattle.changes.proofs.Reading.take_meter.Goals as goal
 
 pub returns : goal.returns

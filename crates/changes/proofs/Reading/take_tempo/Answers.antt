@@ -1,5 +1,4 @@
 -- `take_tempo` takes a tempo that is the first and not of value 0: each way out rewrites the step by the tests passed.
-use borrow.Author.Rules.{rules}
 use borrow.Author.Tests.{eq-eqb, ne_eqb}
 use Rattle.changes.proofs.Reading.take_tempo.Goals as goal
 
