@@ -1,0 +1,6 @@
+-- `take_meter` takes the word's figures.
+use borrow.Author.Rules.{rules}
+use Rattle.bar_walk.proofs.Walker.take_meter.Goals as goal
+
+pub returns : goal.returns
+returns c = rw (c.take_apart-x.ensures.a, c.lower_of.ensures)

@@ -1,0 +1,17 @@
+-- `count_bars` counts the bars. The loop's invariant: `count` bars are past, and with those ahead of the walker they are all.
+use Prim.Native.Nat.{◌+◌, ◌-◌}
+use mathlib.Core.Path.{◌≡◌, ap}
+use native.Mathlib.Omega.{arith}
+use lib.ListN.{length}
+use Rattle.rules.specs.Bars.{bars_in}
+use Rattle.track_events.specs.Track.{events_of}
+use Rattle.bar_walk.proofs.WalkLaws.{Walking, walking_start, walking_sane, walking_ready, walking_on}
+use Rattle.bar_walk.proofs.WalkLaws.{bars_ahead, ahead_all, ahead_more, ahead_last, ahead_end}
+use Rattle.bar_walk.proofs.count_bars.Given as goal
+
+abbrev pub invariant-loop-count : goal.invariant-loop-count
+invariant-loop-count l = Walking l.deltas l.words l.p l.walker
+    × (l.count + length (bars_ahead l.deltas l.words l.end (l.max_bars - l.count) l.walker) ≡ length (bars_in l.max_bars l.p (events_of l.deltas l.words) l.end))
+
+abbrev pub decreases-loop-count : goal.decreases-loop-count
+decreases-loop-count l = l.max_bars - l.count
