@@ -9,7 +9,7 @@ use borrow.Author.Tests.{le-leb, lt-ltb, le-ltb, ne_eqb}
 use lib.Dec.{ltb}
 use lib.ListN.{length, get_or, drop, drop_of_length-le}
 use Rattle.rules.specs.Lists.{position}
-use Rattle.rules.specs.Piece.{Event, kind_of, is_kind}
+use Rattle.rules.specs.Piece.{kind_of, is_kind}
 use Rattle.track_events.specs.Track.{Track, events_of}
 use Rattle.track_events.proofs.Tracks.{timed_cons, timed_length, tick_next}
 use Rattle.bar_walk.specs.declared.Walker.{Walker}

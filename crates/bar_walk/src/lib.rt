@@ -1,4 +1,6 @@
 // Section 4: the bars of a piece, walked one by one.
+#![tactic(auto)]
+
 ghost use Rattle.std.specs.Prelude.{◌<◌, ◌≡◌, not, length};
 ghost use Rattle.rules.specs.Piece.{byte_b};
 ghost use Rattle.rules.specs.Changes.{same_meter};

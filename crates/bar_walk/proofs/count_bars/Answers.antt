@@ -1,11 +1,8 @@
-use Prim.Native.Nat.{◌+◌, ◌-◌}
-use mathlib.Core.Path.{◌≡◌, ap}
+use mathlib.Core.Path.{ap}
 use native.Mathlib.Omega.{arith}
 use lib.ListN.{length}
-use Rattle.rules.specs.Bars.{bars_in}
-use Rattle.track_events.specs.Track.{events_of}
-use Rattle.bar_walk.proofs.WalkLaws.{Walking, walking_start, walking_sane, walking_ready, walking_on}
-use Rattle.bar_walk.proofs.WalkLaws.{bars_ahead, ahead_all, ahead_more, ahead_last, ahead_end}
+use Rattle.bar_walk.proofs.WalkLaws.{walking_start, walking_sane, walking_ready, walking_on}
+use Rattle.bar_walk.proofs.WalkLaws.{ahead_all, ahead_more, ahead_last, ahead_end}
 use Rattle.bar_walk.proofs.count_bars.Goals as goal
 
 pub first_bar-walker-requires : goal.first_bar-walker-requires

@@ -1,12 +1,11 @@
 -- `count_bars` counts the bars. The loop's invariant: `count` bars are past, and with those ahead of the walker they are all.
 use Prim.Native.Nat.{◌+◌, ◌-◌}
-use mathlib.Core.Path.{◌≡◌, ap}
-use native.Mathlib.Omega.{arith}
+use mathlib.Core.Path.{◌≡◌}
 use lib.ListN.{length}
 use Rattle.rules.specs.Bars.{bars_in}
 use Rattle.track_events.specs.Track.{events_of}
-use Rattle.bar_walk.proofs.WalkLaws.{Walking, walking_start, walking_sane, walking_ready, walking_on}
-use Rattle.bar_walk.proofs.WalkLaws.{bars_ahead, ahead_all, ahead_more, ahead_last, ahead_end}
+use Rattle.bar_walk.proofs.WalkLaws.{Walking}
+use Rattle.bar_walk.proofs.WalkLaws.{bars_ahead}
 use Rattle.bar_walk.proofs.count_bars.Given as goal
 
 abbrev pub invariant-loop-count : goal.invariant-loop-count

@@ -1,6 +1,5 @@
 -- `first_bar` settles the walker that starts with the head's meter.
 use native.Mathlib.Omega.{arith}
-use borrow.Author.Rules.{rules}
 use Rattle.bar_walk.proofs.StepLaws.{walk_start}
 use Rattle.bar_walk.proofs.first_bar.Goals as goal
 

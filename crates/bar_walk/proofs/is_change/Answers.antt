@@ -1,5 +1,4 @@
 -- `is_change`: the kind is 2, 3 or 4.
-use borrow.Author.Rules.{rules}
 use borrow.Author.Tests.{le-leb, lt-leb}
 use Rattle.bar_walk.proofs.is_change.Goals as goal
 

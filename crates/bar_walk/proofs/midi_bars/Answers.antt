@@ -1,11 +1,7 @@
-use Prim.Native.Nat.{◌-◌}
 use native.Mathlib.Omega.{arith}
-use borrow.Author.Rules.{rules}
 use lib.ListN.{length-set}
-use Rattle.rules.specs.Bars.{bars_in}
-use Rattle.track_events.specs.Track.{events_of}
-use Rattle.bar_walk.proofs.WalkLaws.{Walking, walking_start, walking_sane, walking_ready, walking_on}
-use Rattle.bar_walk.proofs.Outputs.{Out, out_start, in_starts, in_marks, out_more, out_last, out_end}
+use Rattle.bar_walk.proofs.WalkLaws.{walking_start, walking_sane, walking_ready, walking_on}
+use Rattle.bar_walk.proofs.Outputs.{out_start, in_starts, in_marks, out_more, out_last, out_end}
 use Rattle.bar_walk.proofs.midi_bars.Goals as goal
 
 pub first_bar-w-requires : goal.first_bar-w-requires

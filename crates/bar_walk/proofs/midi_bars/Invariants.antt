@@ -1,12 +1,9 @@
 -- `midi_bars` writes the bars. The loop's invariant: `n` bars are written to both outputs, and those ahead of the walker are to come.
 use Prim.Native.Nat.{◌-◌}
-use native.Mathlib.Omega.{arith}
-use borrow.Author.Rules.{rules}
-use lib.ListN.{length-set}
 use Rattle.rules.specs.Bars.{bars_in}
 use Rattle.track_events.specs.Track.{events_of}
-use Rattle.bar_walk.proofs.WalkLaws.{Walking, walking_start, walking_sane, walking_ready, walking_on}
-use Rattle.bar_walk.proofs.Outputs.{Out, out_start, in_starts, in_marks, out_more, out_last, out_end}
+use Rattle.bar_walk.proofs.WalkLaws.{Walking}
+use Rattle.bar_walk.proofs.Outputs.{Out}
 use Rattle.bar_walk.proofs.midi_bars.Given as goal
 
 abbrev pub invariant-loop-n : goal.invariant-loop-n

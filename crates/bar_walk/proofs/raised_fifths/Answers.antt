@@ -1,7 +1,6 @@
 -- `raised_fifths`: fifths and 8 are 1 to 15, so no signed sum or cast loses a bit.
 use mathlib.Core.Path.{◌≡◌}
 use native.Mathlib.Omega.{arith}
-use borrow.Author.Rules.{rules}
 use lib.IntN.{ℤ, pos, ◌+ℤ◌}
 use mir.Facts.{to_z-of_z}
 use mir.Syntax.{w32}

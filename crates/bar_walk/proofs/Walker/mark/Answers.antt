@@ -1,6 +1,5 @@
 -- `mark` packs the walker's fields, and whether the meter is printed.
 use mathlib.Core.Path.{◌∙◌}
-use borrow.Author.Rules.{rules}
 use Rattle.bar_walk.proofs.Walker.mark.Goals as goal
 
 pub returns : goal.returns

@@ -1,9 +1,6 @@
-use Prim.Native.Nat.{◌-◌}
 use mathlib.Core.Path.{sym, ◌∙◌}
 use native.Mathlib.Omega.{arith}
-use borrow.Author.Rules.{rules}
-use lib.ListN.{length}
-use Rattle.bar_walk.proofs.SkipLaws.{Skipping, skipping_start, skipping_on, skipped_late, skipped_change, skipped_end}
+use Rattle.bar_walk.proofs.SkipLaws.{skipping_start, skipping_on, skipped_late, skipped_change, skipped_end}
 use Rattle.bar_walk.proofs.Walker.skip_to_change.Goals as goal
 
 pub loop-at-init : goal.loop-at-init

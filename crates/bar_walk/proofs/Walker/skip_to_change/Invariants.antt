@@ -1,10 +1,7 @@
 -- `skip_to_change` moves on to the first event that it does not skip. The loop's invariant: the events up to `at` are skipped.
 use Prim.Native.Nat.{◌-◌}
-use mathlib.Core.Path.{sym, ◌∙◌}
-use native.Mathlib.Omega.{arith}
-use borrow.Author.Rules.{rules}
 use lib.ListN.{length}
-use Rattle.bar_walk.proofs.SkipLaws.{Skipping, skipping_start, skipping_on, skipped_late, skipped_change, skipped_end}
+use Rattle.bar_walk.proofs.SkipLaws.{Skipping}
 use Rattle.bar_walk.proofs.Walker.skip_to_change.Given as goal
 
 abbrev pub invariant-loop-at : goal.invariant-loop-at

@@ -1,12 +1,7 @@
 -- `take_changes` settles the bar. The loop's invariant: the first `at` events are taken, and the walker is at the same bar.
 use Prim.Native.Nat.{◌-◌}
-use mathlib.Core.Path.{refl, sym, ◌∙◌}
-use native.Mathlib.Omega.{arith}
 use lib.ListN.{length}
-use Rattle.track_events.proofs.Tracks.{formed_at}
 use Rattle.bar_walk.specs.Walk.{Ready, SameBar}
-use Rattle.bar_walk.proofs.StepLaws.{walk_settled, coming_late, coming_none}
-use Rattle.bar_walk.proofs.SkipLaws.{ready_one, ready_on, skipped_some}
 use Rattle.bar_walk.proofs.Walker.take_changes.Given as goal
 
 abbrev pub invariant-loop-w : goal.invariant-loop-w

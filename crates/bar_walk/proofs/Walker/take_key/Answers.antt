@@ -1,5 +1,4 @@
 -- `take_key` marks a key at the bar's start, and passes over any other.
-use borrow.Author.Rules.{rules}
 use borrow.Author.Tests.{eq-eqb, ne_eqb}
 use Rattle.bar_walk.proofs.Walker.take_key.Goals as goal
 

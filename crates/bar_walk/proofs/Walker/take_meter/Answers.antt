@@ -1,5 +1,4 @@
 -- `take_meter` takes the word's figures.
-use borrow.Author.Rules.{rules}
 use Rattle.bar_walk.proofs.Walker.take_meter.Goals as goal
 
 pub returns : goal.returns

@@ -1,7 +1,6 @@
 -- `take_one` goes by the word's kind: each arm rewrites the step by its kind.
 use mathlib.Core.Path.{sym, ◌∙◌}
 use native.Mathlib.Omega.{arith}
-use borrow.Author.Rules.{rules}
 use borrow.Author.Tests.{ne_eqb}
 use Rattle.rules.specs.Piece.{kind_of}
 use Rattle.track_events.proofs.Tracks.{meter_bounds}

@@ -1,5 +1,4 @@
 -- `take_tempo` marks a tempo that is not of value 0, at the bar's start and after tick 0: each way out has its tests.
-use borrow.Author.Rules.{rules}
 use borrow.Author.Tests.{eq-eqb, ne_eqb, lt-ltb, le-ltb}
 use Rattle.bar_walk.proofs.Walker.take_tempo.Goals as goal
 
