@@ -1,4 +1,6 @@
 // Numbers 1 to 5: whether a piece, as its three arrays sizes, deltas and words, is admitted.
+#![tactic(auto)]
+
 ghost use Rattle.std.specs.Prelude.{◌+◌, ◌-◌, ◌≤◌, true, ◌≡◌, length};
 ghost use Rattle.rules.specs.Lists.{sum};
 ghost use Rattle.rules.specs.Piece.{piece, sizes_agree, well_formed};
