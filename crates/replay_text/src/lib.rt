@@ -1,4 +1,6 @@
 // Numbers and lists of a text, each read from a cursor on, and a list of the text against an array. All of it is on slices; docs/REPLAY.md has the form.
+#![tactic(auto)]
+
 ghost use Rattle.std.specs.Prelude.{◌≤◌, ◌≡◌, length};
 ghost use Rattle.replay_text.specs.Numbers.{numbered, settled, number_at, held_to, bounded_at, list_at, ListRead, most_wide, most_narrow, most_byte};
 ghost use Rattle.replay_text.specs.Checks.{wanted_at, sound, checked_at};
