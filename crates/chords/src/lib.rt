@@ -8,6 +8,8 @@
 //    7, 8       its keys: bit k of the low word is for key k, of the high word for key 64 + k
 //    9          1 if it is unpitched, else 0
 //    10 to 13   the numbers of the chords of voices 0 to 3, in order
+#![tactic(auto)]
+
 ghost use Rattle.std.specs.Prelude.{ℕ, ◌+◌, ◌*◌, ◌^◌, ◌≤◌, ◌<◌, ◌≡◌, length, get_or};
 ghost use Rattle.std.specs.Int.Bits.{bit_or};
 ghost use Rattle.rules.specs.RawNotes.{RawNote};
