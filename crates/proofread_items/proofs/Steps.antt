@@ -16,7 +16,6 @@ use Rattle.proofread_notes.proofs.Areas.{same_self, before_same, before_later}
 use Rattle.proofread_items.specs.Playing.{Heard, fits?, prolonged_to, sound_ok?, chord_after, closed_after, hear_one}
 use Rattle.proofread_items.specs.Playing.{as_item, timed_at, tie_of, chord_of, Paced, Closes, Sounds, Takes}
 use Rattle.proofread_items.specs.declared.Item.{Item}
-use Rattle.proofread_items.specs.declared.Tie.{Tie}
 use Rattle.proofread_items.specs.declared.Voice.{Voice}
 
 -- ---- the last chord is closed

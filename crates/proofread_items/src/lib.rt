@@ -1,4 +1,6 @@
 // The proof-reader's half that knows a staff's items: a voice is read item by item, its ties are followed, and it is played back.
+#![tactic(auto)]
+
 ghost use Rattle.std.specs.Prelude.{◌+◌, ◌*◌, ◌^◌, ◌≤◌, ◌<◌, true, not, ◌&&◌, ◌≡◌, eqb, leb, length, take, drop};
 ghost use Rattle.std.specs.Bool.{beq};
 ghost use Rattle.rules.specs.Values.{ticks_of, is_whole};
