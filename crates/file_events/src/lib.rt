@@ -1,4 +1,6 @@
 // The events of a MIDI file, read one by one from a track's bytes: variable-length quantities, and what stands behind them.
+#![tactic(auto)]
+
 ghost use Rattle.std.specs.Prelude.{◌≤◌, true, ◌≡◌, length, get_or, drop};
 ghost use Rattle.rules.specs.Meanings.{is_marker};
 ghost use Rattle.rules.specs.Piece.{word};
