@@ -1,14 +1,16 @@
 // Ticks of a piece and ticks of its automation, section 9: two types, and one conversion.
+#![tactic(auto)]
+
 ghost use Rattle.std.specs.Prelude.{◌+◌, ◌≤◌, ◌<◌, ◌^◌, ◌≡◌, eqb};
 ghost use Rattle.rules.specs.Piece.{largest_size};
 ghost use Rattle.rules.specs.Automation.{automation_tick};
 
 // A tick of the piece, as its notes have it.
-#[derive(Drop)]
+#[derive(Clone, Copy)]
 pub struct SourceTick(pub u64);
 
 // A tick at 480 per quarter.
-#[derive(Drop)]
+#[derive(Clone, Copy)]
 pub struct AutomationTick(pub u64);
 
 impl SourceTick {
