@@ -1,4 +1,6 @@
 // The line of an item on a printed page.
+#![tactic(auto)]
+
 ghost use Rattle.std.specs.Prelude.{ℕ, ◌+◌, ◌≤◌, ◌<◌, List, [], ◌∷◌, ◌++◌, length};
 ghost use Rattle.line_text.specs.Text.{Adds};
 ghost use Rattle.item_lines.specs.Items.{bit_key, word_keys, sound_text, letter, item_end, value_text, ties_text, item_line, Keyed};
