@@ -1,4 +1,6 @@
 // What opens a piece or a part: numbers 1 to 5, then 6, then 7. Room is no part of it.
+#![tactic(auto)]
+
 ghost use Rattle.rules.specs.Piece.{piece};
 ghost use Rattle.opening.specs.Opening.{NotesOpened, PartOpened};
 
