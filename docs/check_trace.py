@@ -379,7 +379,7 @@ def readme():
             faults.append(f"{page}: the table of crates has {name}, crates.txt does not")
 
 
-# A path of the repository. What stands in target/ is made.
+# A path of the repository. What stands in target/ or a crate's out/ is made.
 FOLDERS = r"(?:\.\./)?(?:\.ci|crates|differential|docs|examples|include)"
 PATH = rf"(?<![\w./-])({FOLDERS}/[\w./-]*\w|crates\.txt|(?:install|print)\.sh)"
 
@@ -397,6 +397,8 @@ def paths():
                         row.fault(f"no such file: {link}")
             for path in re.findall(PATH, re.sub(r"\]\([^()]+\)", "]", line)):
                 count("paths")
+                if re.match(r"(?:\.\./)?crates/\w+/out/", path):
+                    continue
                 path = path.removeprefix("../")
                 if not (ROOT / path).exists() and not (ROOT / f"{path}.antt").is_file():
                     row.fault(f"no such file: {path}")
