@@ -10,7 +10,7 @@ fi
 mkdir -p "$1/include" "$1/lib/pkgconfig"
 prefix=$(cd "$1" && pwd)
 cd "$(dirname "$0")"
-if ! said=$(rt lib acorde 2>&1); then
+if ! said=$(cd crates/acorde && rt lib 2>&1); then
     echo "$said" >&2
     exit 1
 fi

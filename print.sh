@@ -23,7 +23,7 @@ if [ ! -x "$binary" ] || [ -n "$(changed)" ]; then
     echo "$program is proved and built first, some minutes; each crate as it is done:" >&2
     said=$(mktemp)
     trap 'rm -f "$said"' EXIT
-    if ! rt run "$program" < /dev/null 2>&1 > /dev/null | tee "$said" | sed -un 's/^rt: /  /p' >&2; then
+    if ! (cd "crates/$program" && rt run < /dev/null 2>&1 > /dev/null) | tee "$said" | sed -un 's/^rt: /  /p' >&2; then
         cat "$said" >&2
         exit 1
     fi

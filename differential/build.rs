@@ -39,7 +39,7 @@ fn run(command: &mut Command) {
     assert!(status.success(), "{command:?}");
 }
 
-/// libacorde.a of the folder that ACORDE_LIBRARY names, else of the one that `rt lib acorde` fills.
+/// libacorde.a of the folder that ACORDE_LIBRARY names, else of the one that `rt lib` in crates/acorde fills.
 fn link_library() {
     let package = env::var("CARGO_MANIFEST_DIR").expect("cargo sets CARGO_MANIFEST_DIR");
     let named = env::var("ACORDE_LIBRARY").unwrap_or("../crates/acorde/out".into());

@@ -4,7 +4,7 @@
 # README.md has the commands. Where the library is proved already nothing is proved again.
 set -eu
 cd "$(dirname "$0")/.."
-if ! said=$(rt lib acorde 2>&1); then
+if ! said=$(cd crates/acorde && rt lib 2>&1); then
     echo "$said" >&2
     exit 1
 fi

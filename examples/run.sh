@@ -16,7 +16,7 @@ if [ "$(number "")" != "$(number _MAJOR).$(number _MINOR).$(number _PATCH)" ] ||
     exit 1
 fi
 
-[ -f "$library" ] || rt lib acorde
+[ -f "$library" ] || (cd crates/acorde && rt lib)
 mkdir -p "$programs"
 for name in first import; do
     ${CC:-gcc} $flags "examples/$name.c" "$library" -o "$programs/$name"

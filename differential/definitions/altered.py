@@ -60,7 +60,7 @@ def altered(names):
 
 def refused(folder, crate):
     """What was said where the crate is not proved; nothing where it is."""
-    run = subprocess.run(["rt", "check", crate], cwd=folder, capture_output=True, text=True, check=False)
+    run = subprocess.run(["rt", "check"], cwd=folder / "crates" / crate, capture_output=True, text=True, check=False)
     return run.stdout + run.stderr if run.returncode else ""
 
 

@@ -221,7 +221,7 @@ def main():
     (crate / "src/lib.rt").write_text("// No code: specs/ holds computed theorems.\n")
     (crate / "specs/Lib.antt").write_text("pub mod Computed\n")
     (crate / "specs/Computed.antt").write_text(HEADER + "".join(found))
-    run = subprocess.run(["rt", "check", "computed"], cwd=FOLDER, capture_output=True, text=True)
+    run = subprocess.run(["rt", "check"], cwd=crate, capture_output=True, text=True)
     if run.returncode != 0:
         print((run.stdout + run.stderr)[:4000])
         sys.exit(1)

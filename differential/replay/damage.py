@@ -1,7 +1,7 @@
 #!/usr/bin/env python3
 """Damages the stored list in many ways and runs the program `replay` on each: what is printed must say so.
 
-    python3 damage.py [TIMES]      in this folder, after `rt run replay`; so many places for each kind of damage
+    python3 damage.py [TIMES]      in this folder, after `rt run` in crates/replay; so many places for each kind of damage
 """
 import random
 import re

@@ -113,7 +113,7 @@ fn run(program: &str, input: &[u8]) -> Result<Output, String> {
         })
     };
     whole().map_err(|error| {
-        format!("../crates/{program}/out/{program}: {error} (`rt run {program}` builds it)")
+        format!("../crates/{program}/out/{program}: {error} (`rt run` in crates/{program} builds it)")
     })
 }
 
