@@ -2,7 +2,6 @@
 use Prim.Native.Nat.{ℕ, ◌+◌, ◌*◌, ◌/◌, ◌%◌, ◌≤◌, ◌<◌}
 use mathlib.Core.List.{List, [], ◌∷◌}
 use mathlib.Core.Logic.{⊎_elim}
-use mathlib.Core.Option.{some}
 use mathlib.Core.Path.{◌≡◌}
 use native.Mathlib.Omega.{arith}
 use lib.ListN.{length}
@@ -10,7 +9,7 @@ use Rattle.rules.specs.Lists.{All}
 use Rattle.rules.specs.RawNotes.{NoteEvent, without_oldest, by_channel}
 use Rattle.laws.proofs.Order.{by_le, by_lt}
 use Rattle.laws.proofs.Lists.{All-imp, All-both}
-use Rattle.pairing.specs.Queues.{cell, at, Inside, Queues}
+use Rattle.pairing.specs.Queues.{cell, Inside, Queues}
 use Rattle.pairing.specs.Steps.{Popped, queue_at, Somewhere, First, Waiting, Taken}
 use Rattle.pairing.specs.declared.Start.{Start}
 use Rattle.pairing.proofs.Pending.{all_without, first_sorted}

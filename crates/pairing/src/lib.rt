@@ -3,6 +3,8 @@
 // heads[c][k] and tails[c][k] lead to the first and the last start of channel c and key k. A start's node is its number as it
 // came, 0, 1, ..; a head, a tail or a link holds the node + 1, and 0 for none. The work area is columns of n words: node i has its
 // link in column 4, work[4 * n + i], its tick in column 5 and its event's number in column 6. Other columns are not touched.
+#![tactic(auto)]
+
 ghost use Rattle.std.specs.Prelude.{ℕ, ◌*◌, ◌≤◌, ◌<◌, List, length};
 ghost use Rattle.rules.specs.Lists.{All};
 ghost use Rattle.rules.specs.RawNotes.{NoteEvent, Pairing, by_channel};
