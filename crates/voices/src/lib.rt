@@ -1,4 +1,6 @@
 // A part's chords spread over four voices, in one lent work area, whose columns the crate chords lays out.
+#![tactic(auto)]
+
 ghost use Rattle.std.specs.Prelude.{ℕ, ◌+◌, ◌-◌, ◌*◌, ◌^◌, ◌≤◌, ◌<◌, List, ◌≡◌, leb, eqb, length, get_or};
 ghost use Rattle.rules.specs.Lists.{every, position, All};
 ghost use Rattle.rules.specs.Piece.{largest_size};
