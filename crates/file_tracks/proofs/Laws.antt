@@ -1,5 +1,5 @@
 -- What is gathered: arrays filled as far as they go, one event, one track, one chunk more, and what is left to read.
-use Prim.Native.Nat.{ℕ, zero, suc, ◌+◌, ◌-◌, ◌*◌, ◌≤◌, ◌<◌}
+use Prim.Native.Nat.{ℕ, suc, ◌+◌, ◌-◌, ◌*◌, ◌≤◌, ◌<◌}
 use mathlib.Core.Bool.{Bool, true, false, cond, ◌&&◌, and-true, and_assoc}
 use mathlib.Core.List.{List, [], ◌∷◌, ◌++◌, map, flatten, append-nil, append_assoc, map-append}
 use mathlib.Core.Logic.{inl, inr}
@@ -7,8 +7,8 @@ use mathlib.Core.Option.{Option, none, some, none-ne-some}
 use mathlib.Core.Path.{◌≡◌, refl, ap, sym, ◌∙◌}
 use native.Mathlib.Numerals.{add-one}
 use native.Mathlib.Omega.{arith}
-use borrow.Author.Tests.{lt-ltb, le-ltb, le-leb, lt-leb, ltb-true, ltb-false, eq-eqb, ne_eqb, eqb-true, eqb-false}
-use lib.Dec.{ltb, leb, eqb}
+use borrow.Author.Tests.{lt-ltb, le-ltb, le-leb, lt-leb, ltb-true, ltb-false, eqb-true, eqb-false}
+use lib.Dec.{ltb, eqb}
 use lib.ListN.{length, get_or, take, drop, set, length-append, length-take, length-drop, length-map, drop_of_length-le}
 use lib.Seq.{take-nil, take_all, take-append-le, append_snoc, drop-cons, take-add, drop-drop}
 use Rattle.rules.specs.Lists.{every, written, is_empty}
@@ -22,7 +22,7 @@ use Rattle.laws.proofs.Filling.{Wrote, wrote_more}
 use Rattle.laws.proofs.FileSteps.{events_none, events_broken, events_end, events_more, tracks_done}
 use Rattle.laws.proofs.FileSteps.{tracks_broken, tracks_header, tracks_track, tracks_skip}
 use Rattle.laws.proofs.Order.{by_bool}
-use Rattle.laws.proofs.Parsed.{agrees_some, agrees_none, both_some, both_none}
+use Rattle.laws.proofs.Parsed.{both_some, both_none}
 use Rattle.file_events.specs.declared.TimedEvent.{TimedEvent}
 use Rattle.file_events.specs.Events.{EventIs}
 use Rattle.file_tracks.specs.declared.Gathered.{Gathered}

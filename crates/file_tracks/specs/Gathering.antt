@@ -1,6 +1,6 @@
 -- What lent arrays hold of the tracks gathered so far, and how the program's chunks go together with the definition's.
-use Rattle.std.specs.Prelude.{ℕ, ◌+◌, ◌-◌, ◌≤◌, ◌<◌, Bool, cond, ◌≡◌, eqb, ltb, length, take, drop, set}
-use mathlib.Core.List.{List, [], ◌∷◌, ◌++◌, map, flatten}
+use Rattle.std.specs.Prelude.{ℕ, ◌+◌, ◌-◌, ◌≤◌, cond, ◌≡◌, eqb, ltb, length, take, drop, set}
+use mathlib.Core.List.{List, [], ◌∷◌, map, flatten}
 use Rattle.std.proofs.Math.Option.{Option, none, some}
 use Rattle.rules.specs.Lists.{every, written}
 use Rattle.rules.specs.Piece.{well_formed}

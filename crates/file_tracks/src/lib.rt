@@ -1,5 +1,7 @@
 // The tracks of a MIDI file: chunk after chunk, their events gathered into lent arrays. What finds no room in an array is counted all the same, so that
 // with empty arrays a file is only examined.
+#![tactic(auto)]
+
 ghost use Rattle.std.specs.Prelude.{ℕ, ◌+◌, ◌-◌, ◌≤◌, ◌<◌, cond, ◌&&◌, List, [], ◌∷◌, ◌++◌, ◌≡◌, eqb, length, get_or, take, drop};
 ghost use Rattle.std.proofs.Math.Option.{none, some};
 ghost use Rattle.rules.specs.Standard.{big_endian};

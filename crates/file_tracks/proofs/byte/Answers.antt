@@ -1,0 +1,7 @@
+-- `file_tracks::byte` reads a byte.
+use native.Mathlib.Omega.{arith}
+use Rattle.file_tracks.proofs.byte.Goals as goal
+
+pub returns : goal.returns
+returns c =
+    (c.wide.ensures, omega (arith, c.wide.ensures, c.type_inv.bytes c.args.at))
