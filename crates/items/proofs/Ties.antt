@@ -21,7 +21,7 @@ use Rattle.chords.proofs.Stores.{keys_low, keys_high}
 use Rattle.values.specs.Table.{piece_word, span_words}
 use Rattle.values.specs.declared.Split.{Split}
 use Rattle.items.specs.Putting.{put_at, Put}
-use Rattle.items.specs.Writing.{Items, Pushed, span_items, SpanPut, untied, freed, BothTied}
+use Rattle.items.specs.Writing.{Pushed, span_items, SpanPut, untied, freed, BothTied}
 use Rattle.items.proofs.Putting.{put_length}
 use Rattle.items.proofs.Pieces.{tied_bits, rest_heads, rest_keys, pieces_length, pieces_keys, piece_heads}
 

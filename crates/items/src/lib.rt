@@ -1,5 +1,7 @@
 // Section 7, items: rests and the pieces of chords in a bar, written to lent outputs from a place on. Each function is told whether to
 // write: where it is not, the items are counted, and no output changes. Each adds the ticks that no item took to those it is given.
+#![tactic(auto)]
+
 ghost use Rattle.std.specs.Prelude.{◌+◌, ◌-◌, ◌*◌, ◌<◌, ◌≤◌, ◌^◌, min, false, ◌&&◌, ◌≡◌, ltb, length, get_or};
 ghost use Rattle.rules.specs.Lists.{flag};
 ghost use Rattle.rules.specs.Staff.{rests, chord_in, rests_left, chord_left};
