@@ -1,4 +1,6 @@
 // The text of a piece, three lines of decimals, read byte by byte into lent arrays. Numbers that find no room are counted.
+#![tactic(auto)]
+
 ghost use Rattle.std.specs.Prelude.{ℕ, ◌*◌, ◌≤◌, ◌<◌, List, [], ◌∷◌, ◌++◌, ◌⊎◌, ◌≡◌, length};
 ghost use Rattle.rules.specs.Piece.{Piece, piece};
 ghost use Rattle.rules.specs.Refusals.{first_number, piece_refusals};
