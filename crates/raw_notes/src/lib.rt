@@ -3,6 +3,8 @@
 // The work area is columns of n words. Notes are put, as they close, into column 2 (start * 128 + key) and column 3 (end * 16 + channel);
 // pairing has columns 4 to 6. Their places are then sorted by start and key in column 0, with column 1 as room, and last the two
 // words of each note are brought to columns 0 (end) and 1 (start), in order.
+#![tactic(auto)]
+
 ghost use Rattle.std.specs.Prelude.{ℕ, ◌+◌, ◌*◌, ◌≤◌, ◌<◌, ◌^◌, List, length, take};
 ghost use Rattle.rules.specs.Lists.{All, keep};
 ghost use Rattle.rules.specs.Piece.{Event, is_on};
