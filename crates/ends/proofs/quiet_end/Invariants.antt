@@ -1,0 +1,17 @@
+-- `quiet_end` goes back from the end. The invariant: no note starts from event i on.
+use Prim.Native.Nat.{◌-◌, ◌≤◌, ◌<◌}
+use mathlib.Core.Bool.{false, false≢true}
+use mathlib.Core.Path.{◌≡◌, sym, ◌∙◌}
+use native.Mathlib.Omega.{arith}
+use lib.ListN.{length, drop, drop_of_length-le}
+use Rattle.rules.specs.Lists.{any}
+use Rattle.rules.specs.Piece.{is_on}
+use Rattle.laws.proofs.Loops.{sum_left}
+use Rattle.ends.proofs.Bounds.{any_back, ends_quiet, ends_late}
+use Rattle.ends.proofs.quiet_end.Given as goal
+
+abbrev pub invariant-loop-i : goal.invariant-loop-i
+invariant-loop-i l = (l.i ≤ length l.deltas) × (any is_on (drop l.i l.words) ≡ false)
+
+abbrev pub decreases-loop-i : goal.decreases-loop-i
+decreases-loop-i l = l.i
