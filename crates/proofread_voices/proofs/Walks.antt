@@ -25,7 +25,7 @@ use Rattle.proofread_notes.proofs.Areas.{same_self, same_then, notes_same}
 use Rattle.proofread_items.specs.Playing.{Heard, last_ok?, closed_with, run, tie_of, chord_of, heard_of, Paced}
 use Rattle.proofread_items.specs.declared.Voice.{Voice}
 use Rattle.proofread_items.proofs.Reading.{run_failed}
-use Rattle.proofread_voices.specs.Voices.{with_ok, voice_run, silent, voice_ok?, full?, Fits, NewVoice, ReadsBar, EndsVoice, ReadsVoice}
+use Rattle.proofread_voices.specs.Voices.{with_ok, voice_run, silent, voice_ok?, full?, filled?, Fits, NewVoice, ReadsBar, EndsVoice, ReadsVoice}
 use Rattle.proofread_voices.proofs.BarItems.{four_cut, four_voice, sum_more, sum_next, sum_part}
 use Rattle.proofread_voices.proofs.Steps.{full_is}
 
@@ -42,7 +42,7 @@ unfolding voice_run
 voice_failed p e ns v a [] st h = h
 voice_failed p e ns v a (b ∷ bs) [] h = h
 voice_failed p e ns v a (b ∷ bs) (bar ∷ st) h =
-    voice_failed p e ns v _ bs st (rw (run_failed p e ns a (timed_from p b.start (voice_items v bar)) h))
+    voice_failed p e ns v (with_ok (run p e ns a (timed_from p b.start (voice_items v bar))) (filled? p v b (voice_items v bar))) bs st (rw (run_failed p e ns a (timed_from p b.start (voice_items v bar)) h))
 
 -- the items of voice v in the first bar of the counts cs
 abbrev items_in : List ℕ → List Item → ℕ → List Item

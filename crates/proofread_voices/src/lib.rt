@@ -1,9 +1,11 @@
 // The proof-reader's walk along a voice: its items in each bar, and what is asked at the bar's and at the voice's end.
+#![tactic(auto)]
+
 ghost use Rattle.std.specs.Prelude.{◌+◌, ◌*◌, ◌^◌, ◌≤◌, ◌<◌, true, cond, ◌≡◌, eqb, length, take, drop};
 ghost use Rattle.rules.specs.Lists.{sum};
 ghost use Rattle.rules.specs.Bars.{bars_in};
 ghost use Rattle.rules.specs.Items.{read_items, read_staff};
-ghost use Rattle.rules.specs.ProofReaderTests.{freeAt?};
+ghost use Rattle.rules.specs.ProofReaderTests.{free_at?};
 ghost use Rattle.track_events.specs.Track.{events_of};
 ghost use Rattle.bar_walk.specs.Walk.{CanWalk};
 ghost use Rattle.proofread_notes.specs.Columns.{Readable, Before};
@@ -101,7 +103,7 @@ fn read_bar(
 
 // Whether the open tie-out, if there is one, stands at the tick e.
 fn free_at(v: Voice, e: u64) -> bool
-    ensures { result ≡ freeAt? e (tie_of v) }
+    ensures { result ≡ free_at? e (tie_of v) }
 {
     if v.tied {
         let t = v.tie;
