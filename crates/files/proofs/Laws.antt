@@ -1,29 +1,29 @@
 -- A file examined: its header, the number to give, and what is written.
-use Prim.Native.Nat.{ℕ, zero, suc, ◌+◌, ◌-◌, ◌≤◌, ◌<◌}
-use mathlib.Core.Bool.{Bool, true, false, cond, not, ◌&&◌, ◌||◌, and-false, and-eq-true_iff}
+use Prim.Native.Nat.{ℕ, suc, ◌+◌, ◌-◌, ◌≤◌, ◌<◌}
+use mathlib.Core.Bool.{Bool, true, false, and-false, and-eq-true_iff}
 use mathlib.Core.List.{List, [], ◌∷◌, ◌++◌, map, flatten, append-nil}
 use mathlib.Core.Logic.{inl, inr}
-use mathlib.Core.Option.{Option, none, some}
+use mathlib.Core.Option.{none, some}
 use mathlib.Core.Path.{◌≡◌, refl, ap, sym, ◌∙◌}
 use native.Mathlib.Nat.{add-zero}
 use native.Mathlib.Omega.{arith}
 use borrow.Author.Tests.{lt-ltb, le-ltb, le-leb, lt-leb, eq-eqb, ne_eqb, eqb-true}
-use lib.Dec.{ltb, leb, eqb}
+use lib.Dec.{leb, eqb}
 use lib.ListN.{length, get_or, take, drop, set, length-set, length-drop, length-map}
 use lib.Seq.{take-add, take-take, drop_at, drop-drop, length-take-le, take-length}
-use Rattle.rules.specs.Lists.{All, every, written}
+use Rattle.rules.specs.Lists.{every, written}
 use Rattle.rules.specs.Standard.{big_endian}
-use Rattle.rules.specs.Piece.{Piece, well_formed, division}
-use Rattle.rules.specs.Refusals.{Result, refused, given, unless, answers, writes, as_it_is, short_output, first_number, piece_refusals, most_events}
-use Rattle.rules.specs.Calls.{PieceSize, piece_size, read_size_call, read_call, ReadCalled}
-use Rattle.rules.specs.File.{Front, front, Header, Chunk, chunk, MThd, header, header_of, behind, count_fits, tracks_of}
+use Rattle.rules.specs.Piece.{well_formed}
+use Rattle.rules.specs.Refusals.{refused, given, unless, as_it_is, short_output, first_number, piece_refusals}
+use Rattle.rules.specs.Calls.{piece_size, read_size_call, read_call, ReadCalled}
+use Rattle.rules.specs.File.{Front, Header, Chunk, chunk, MThd, header, header_of, behind, count_fits, tracks_of}
 use Rattle.rules.specs.File.{file_tracks, file_piece, piece_from, file_refusals, most_bytes, Timed}
 use Rattle.rules.specs.File.{word_of, words_of}
 use Rattle.laws.specs.Files.{Bytes}
 use Rattle.laws.specs.Parsed.{Agrees}
 use Rattle.laws.proofs.FileBounds.{file_numbers}
 use Rattle.laws.proofs.Order.{by_bool}
-use Rattle.laws.proofs.Parsed.{both_some, both_none}
+use Rattle.laws.proofs.Parsed.{both_some}
 use Rattle.laws.proofs.Refusals.{Numbered, piece_numbers, number_passes, number_refused, passes_given, passes_append}
 use Rattle.laws.proofs.Parts.{part_length, put_rest}
 use borrow.Rule.Slice.PartMut.{put_mid, same_len_mid}

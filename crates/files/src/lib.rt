@@ -1,4 +1,6 @@
 // The calls on a MIDI file: its bytes read as a piece.
+#![tactic(auto)]
+
 ghost use Rattle.std.specs.Prelude.{◌+◌, ◌≤◌, ◌≡◌, ◌∷◌, map, eqb, length};
 ghost use Rattle.rules.specs.Lists.{written};
 ghost use Rattle.rules.specs.Refusals.{as_it_is};

@@ -1,0 +1,17 @@
+-- `files::first_number` gives the first number that applies.
+use borrow.Author.Tests.{eq-eqb, ne_eqb, lt-ltb, le-ltb}
+use Rattle.files.proofs.first_number.Goals as goal
+
+pub returns-then-division-eq0 : goal.returns-then-division-eq0
+returns-then-division-eq0 c = rw (c.if-not-fits.false, eq-eqb _ _ c.if-division-eq0.true)
+
+pub returns-then-events-gt-MOST_EVENTS : goal.returns-then-events-gt-MOST_EVENTS
+returns-then-events-gt-MOST_EVENTS c = rw (c.if-not-fits.false, ne_eqb _ _ c.if-division-eq0.false, lt-ltb _ _ c.if-events-gt-MOST_EVENTS.true)
+
+pub returns-then-bad-ne0 : goal.returns-then-bad-ne0
+returns-then-bad-ne0 c =
+    rw (c.if-not-fits.false, ne_eqb _ _ c.if-division-eq0.false, le-ltb _ _ c.if-events-gt-MOST_EVENTS.false, ne_eqb _ _ c.if-bad-ne0.true)
+
+pub returns : goal.returns
+returns c =
+    rw (c.if-not-fits.false, ne_eqb _ _ c.if-division-eq0.false, le-ltb _ _ c.if-events-gt-MOST_EVENTS.false, eq-eqb _ _ c.if-bad-ne0.false)
