@@ -1,4 +1,6 @@
 // The end of the piece, section 4's largest raw end of all parts, from one pass over each track that pairs nothing.
+#![tactic(auto)]
+
 ghost use Rattle.std.specs.Prelude.{◌+◌, ◌*◌, ◌≤◌, ◌<◌, true, ◌≡◌};
 ghost use Rattle.rules.specs.Piece.{piece, well_formed};
 ghost use Rattle.rules.specs.Lists.{sum};

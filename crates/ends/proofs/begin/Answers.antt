@@ -1,6 +1,5 @@
 -- `ends::begin` meets its contract: a count is small enough to grow, and the literal effect is what `begin` says.
 use native.Mathlib.Omega.{arith}
-use borrow.Author.Rules.{rules}
 use Rattle.ends.proofs.begin.Goals as goal
 
 pub overflow_add-counts : goal.overflow_add-counts

@@ -1,7 +1,6 @@
 -- `covered`: by the last tick alone, or by a quiet end.
 use mathlib.Core.Bool.{false≢true}
 use native.Mathlib.Omega.{arith}
-use borrow.Author.Rules.{rules}
 use Rattle.ends.proofs.Bounds.{ends_soon}
 use Rattle.ends.proofs.covered.Goals as goal
 

@@ -1,6 +1,5 @@
 -- `ends::end_of` meets its contract: the test is that of `end_of`, and where no start is pending the counts are zero as they came.
 use borrow.Author.Tests.{lt-ltb, le-ltb}
-use borrow.Author.Rules.{rules}
 use Rattle.ends.proofs.end_of.Goals as goal
 
 pub returns-then-p : goal.returns-then-p

@@ -1,11 +1,7 @@
-use Prim.Native.Nat.{◌-◌}
-use mathlib.Core.Path.{◌≡◌, refl}
+use mathlib.Core.Path.{refl}
 use native.Mathlib.Omega.{arith}
-use borrow.Author.Rules.{rules}
-use lib.ListN.{length}
 use Rattle.tracks.proofs.Cuts.{cut_deltas, cut_words, cut_track}
-use Rattle.ends.specs.Pass.{no_counts}
-use Rattle.ends.proofs.PartEnds.{Between, between_first, between_next, between_end, between_full}
+use Rattle.ends.proofs.PartEnds.{between_first, between_next, between_end, between_full}
 use Rattle.ends.proofs.end_of_piece.Goals as goal
 
 pub loop-i-init : goal.loop-i-init

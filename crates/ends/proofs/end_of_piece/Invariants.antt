@@ -1,13 +1,10 @@
 -- `end_of_piece`: the largest end of the parts. The invariant: the counts are zero, and, `Between`, the end so far and that of the parts to come are
 -- the end of the piece.
 use Prim.Native.Nat.{◌-◌}
-use mathlib.Core.Path.{◌≡◌, refl}
-use native.Mathlib.Omega.{arith}
-use borrow.Author.Rules.{rules}
+use mathlib.Core.Path.{◌≡◌}
 use lib.ListN.{length}
-use Rattle.tracks.proofs.Cuts.{cut_deltas, cut_words, cut_track}
 use Rattle.ends.specs.Pass.{no_counts}
-use Rattle.ends.proofs.PartEnds.{Between, between_first, between_next, between_end, between_full}
+use Rattle.ends.proofs.PartEnds.{Between}
 use Rattle.ends.proofs.end_of_piece.Given as goal
 
 abbrev pub invariant-loop-i : goal.invariant-loop-i

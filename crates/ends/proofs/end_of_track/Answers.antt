@@ -1,11 +1,9 @@
-use Prim.Native.Nat.{◌-◌}
 use mathlib.Core.Path.{◌∙◌}
 use native.Mathlib.Omega.{arith}
-use lib.ListN.{length}
 use Rattle.rules.specs.Refusals.{most_events}
 use Rattle.track_events.proofs.Tracks.{formed_at}
-use Rattle.ends.specs.Pass.{reached, nothing}
-use Rattle.ends.proofs.Midway.{Midway, delta_at, within_more, midway_first, midway_next, midway_end, midway_clear}
+use Rattle.ends.specs.Pass.{nothing}
+use Rattle.ends.proofs.Midway.{delta_at, within_more, midway_first, midway_next, midway_end, midway_clear}
 use Rattle.ends.proofs.end_of_track.Goals as goal
 
 pub loop-i-init : goal.loop-i-init

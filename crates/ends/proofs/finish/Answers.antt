@@ -1,7 +1,6 @@
 -- `ends::finish` meets its contract: the test of the count is the test of `finish`, and each way out has the effect that it says.
 use native.Mathlib.Nat.{le_of_eq, pos_of_ne-zero}
 use borrow.Author.Tests.{lt-ltb, le-ltb}
-use borrow.Author.Rules.{rules}
 use Rattle.ends.proofs.finish.Goals as goal
 
 pub returns-then-counts-c-eq0 : goal.returns-then-counts-c-eq0

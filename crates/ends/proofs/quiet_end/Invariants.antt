@@ -1,13 +1,10 @@
 -- `quiet_end` goes back from the end. The invariant: no note starts from event i on.
-use Prim.Native.Nat.{◌-◌, ◌≤◌, ◌<◌}
-use mathlib.Core.Bool.{false, false≢true}
-use mathlib.Core.Path.{◌≡◌, sym, ◌∙◌}
-use native.Mathlib.Omega.{arith}
-use lib.ListN.{length, drop, drop_of_length-le}
+use Prim.Native.Nat.{◌≤◌}
+use mathlib.Core.Bool.{false}
+use mathlib.Core.Path.{◌≡◌}
+use lib.ListN.{length, drop}
 use Rattle.rules.specs.Lists.{any}
 use Rattle.rules.specs.Piece.{is_on}
-use Rattle.laws.proofs.Loops.{sum_left}
-use Rattle.ends.proofs.Bounds.{any_back, ends_quiet, ends_late}
 use Rattle.ends.proofs.quiet_end.Given as goal
 
 abbrev pub invariant-loop-i : goal.invariant-loop-i

@@ -1,10 +1,7 @@
 -- `ends::step` meets its contract: a note word names a channel below 16 and a key below 128, and each way out is a case of `step`.
-use mathlib.Core.Bool.{true, false}
 use mathlib.Core.Logic.{inl, inr}
-use mathlib.Core.Path.{◌≡◌, sym, ◌∙◌}
+use mathlib.Core.Path.{sym, ◌∙◌}
 use native.Mathlib.Omega.{arith}
-use borrow.Author.Rules.{rules}
-use Rattle.rules.specs.Piece.{is_on, is_off}
 use Rattle.track_events.proofs.Tracks.{note_bounds}
 use Rattle.ends.proofs.Passes.{step_on_lem, step_off, step_over}
 use Rattle.ends.proofs.step.Goals as goal

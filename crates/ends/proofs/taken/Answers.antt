@@ -1,7 +1,6 @@
 -- `ends::taken` meets its contract: a track that ends at 0 is no part.
 use native.Mathlib.Nat.{le_of_eq, pos_of_ne-zero}
 use borrow.Author.Tests.{lt-ltb, le-ltb}
-use borrow.Author.Rules.{rules}
 use Rattle.ends.proofs.taken.Goals as goal
 
 pub returns-then-e-eq0 : goal.returns-then-e-eq0
