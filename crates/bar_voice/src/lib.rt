@@ -1,5 +1,7 @@
 // Section 7: one voice in one bar. Its chords stand in the work area; those that sound in the bar are written as items, with rests for the gaps;
 // what their values leave of the bar adds up.
+#![tactic(auto)]
+
 ghost use Rattle.std.specs.Prelude.{◌+◌, ◌-◌, ◌*◌, ◌<◌, ◌≤◌, max, ◌&&◌, ◌≡◌, ltb, eqb, length};
 ghost use Rattle.chords.specs.Columns as columns;
 ghost use Rattle.voices.specs.Placing.{number_at};
@@ -16,7 +18,7 @@ use values::Split;
 // Chord j of voice v.
 fn voice_chord(work: &[u64], n: usize, v: usize, j: usize) -> VoiceChord
     requires { (16 * n ≤ length work.now) × (v < 4) × (j < n) × (number_at n work.now v j < n) }
-    ensures { columns.chordOf result ≡ columns.chordAt n work.now (number_at n work.now v j) }
+    ensures { columns.chord_of result ≡ columns.chord_at n work.now (number_at n work.now v j) }
 {
     let i = work[(10 + v) * n + j] as usize;
     chords::chord_at(work, n, i)
@@ -63,10 +65,10 @@ fn push_gap_and_chord(
     keys: &mut [u64],
     from: Split,
 ) -> Split
-    requires { IsTable values.now × Sounding bar (columns.chordOf c) × (tick ≤ max bar.start c.start) × (from.left ≤ tick)
-        × Room write (length (gap_and_chord (quarter values.now) bar.start bar.end tick (columns.chordOf c))) from.at heads.old keys.old }
-    ensures { Pushed write (gap_and_chord (quarter values.now) bar.start bar.end tick (columns.chordOf c))
-        (gap_and_chord_left (quarter values.now) bar.start bar.end tick (columns.chordOf c)) from
+    requires { IsTable values.now × Sounding bar (columns.chord_of c) × (tick ≤ max bar.start c.start) × (from.left ≤ tick)
+        × Room write (length (gap_and_chord (quarter values.now) bar.start bar.end tick (columns.chord_of c))) from.at heads.old keys.old }
+    ensures { Pushed write (gap_and_chord (quarter values.now) bar.start bar.end tick (columns.chord_of c))
+        (gap_and_chord_left (quarter values.now) bar.start bar.end tick (columns.chord_of c)) from
         heads.old keys.old heads.new keys.new result }
 {
     let gap = basics::larger(bar.start, c.start) - tick;
