@@ -1,6 +1,8 @@
 // One diagnostic of section 10, and the one place where diagnostics are written.
 //
 // A diagnostic is put where the outputs have room for it, so that counting is the same work with outputs of the counter's own.
+#![tactic(auto)]
+
 ghost use Rattle.std.specs.Prelude.{◌<◌, ◌^◌, [], ◌∷◌, ◌≡◌, set};
 ghost use Rattle.rules.specs.Diagnostics.{place_of, detail_of};
 ghost use Rattle.findings.specs.Found.{diagnostic_of, event_at, Packs, Found};
