@@ -1,8 +1,12 @@
 // The piece of standard input, read chunk by chunk into lent arrays.
+#![tactic(auto)]
+
 ghost use Rattle.piece_input.specs.Input.{SoFar, ReadText};
 
-use libc::STDIN_FILENO;
 use piece_text::{Reader, Text};
+
+// Standard input.
+const STDIN: i32 = 0;
 
 // A reader, and whether there is more to read.
 #[derive(Drop)]
@@ -17,14 +21,13 @@ fn read_some(reader: Reader, sizes: &mut [u32], deltas: &mut [u32], words: &mut 
     ensures { SoFar result.reader sizes.new deltas.new words.new }
 {
     let mut buf = io::large_buffer();
-    let got = libc::read(STDIN_FILENO, &mut buf);
-    if got <= 0 {
+    let n = io::read_full(STDIN, &mut buf);
+    if n == 0 {
         return Turn {
             reader,
             more: false,
         };
     }
-    let n = io::count(got, &buf);
     let next = piece_text::read_bytes(reader, &buf[..n], sizes, deltas, words);
     Turn {
         reader: next,
