@@ -1,4 +1,6 @@
 // What the bars of a piece are walked from: ticks per quarter, the end of the piece, and its first track.
+#![tactic(auto)]
+
 ghost use Rattle.rules.specs.Piece.{piece};
 ghost use Rattle.laws.specs.Admitted.{Admitted};
 ghost use Rattle.bar_source.specs.Source.{IsBarSource};

@@ -1,5 +1,4 @@
 -- `bar_source`: each field by the call that gave it.
-use borrow.Author.Rules.{rules}
 use Rattle.bar_source.proofs.bar_source.Goals as goal
 
 pub returns : goal.returns
