@@ -2,11 +2,12 @@
 use Prim.Native.Nat.{ℕ, suc, ◌+◌, ◌-◌, ◌*◌, ◌≤◌, ◌<◌, ◌^◌}
 use mathlib.Core.Bool.{Bool, true}
 use mathlib.Core.List.{List, [], ◌∷◌, ◌++◌, map, flatten, append-nil, append_assoc}
-use mathlib.Core.Path.{◌≡◌, refl, sym, ap, ◌∙◌}
+use mathlib.Core.Path.{◌≡◌, refl, sym, ap, subst, ◌∙◌}
 use native.Mathlib.Nat.{zero-add}
 use native.Mathlib.Omega.{arith}
 use lib.ListN.{length, get_or, drop, replicate, get_or-replicate, length-append, length-map}
 use Rattle.rules.specs.Bars.{Bar, bar_end, bar_length, bars_from}
+use Rattle.rules.specs.Changes.{Meter}
 use Rattle.rules.specs.Items.{Item, items_of, arrays_of, head_of}
 use Rattle.rules.specs.Staff.{staff_of, leftovers_of}
 use Rattle.rules.specs.Voices.{Chord}
@@ -143,7 +144,7 @@ module _ (write : Bool) (ds ws : List ℕ) (end limit p n : ℕ) (w lens : List 
           omega (
             arith,
             o.walking.ticks,
-            bar_short a.p (meter_in a) (rw o.walking.bar.meter (meter_small (events_of ds ws) a.start)),
+            bar_short a.p (meter_in a) (subst (λ (m : Meter). m.upper < 256) (sym o.walking.bar.meter) (meter_small (events_of ds ws) a.start)),
           )
 
       some_length : 0 < bar_length a.p (meter_in a)

@@ -1,5 +1,7 @@
 // Section 7: the staff along the bars. In each bar the four voices are written as items, with a count and a leftover for each; the bars are walked,
 // not stored.
+#![tactic(auto)]
+
 ghost use Rattle.std.specs.Prelude.{◌+◌, ◌-◌, ◌*◌, ◌<◌, ◌^◌, true, [], ◌∷◌, ◌≡◌, eqb, length};
 ghost use Rattle.rules.specs.Staff.{staff_of, leftovers_of};
 ghost use Rattle.bar_walk.specs.Walk.{CanWalk};
