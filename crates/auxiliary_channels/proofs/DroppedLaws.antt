@@ -67,7 +67,7 @@ module _ {ms : List Marker} {q : Pairs} (noted : Noted ms q) where
         let says = says_below (λ s. says_not (is_chained q.bases s)) 16 in
         elim (by_bool (none_chained q.bases)) [
           | inl none ↦
-              rw none (any_never _ ms (λ m i. any_never _ ms (λ n j.
+              rw none (any_never (λ (m : Marker). any (λ (n : Marker). eqb m.base n.spare) ms) ms (λ m i. any_never (λ (n : Marker). eqb m.base n.spare) ms (λ n j.
               let h = noted.held clear m i in
               let k = noted.held clear n j in
               elim (by_eq m.base n.spare) [

@@ -1,4 +1,6 @@
 // Section 9: which channels of a part's track only mirror another, by its markers and its automation.
+#![tactic(auto)]
+
 ghost use Rattle.std.specs.Prelude.{◌<◌, ◌^◌, ◌&&◌, ◌≡◌, ltb, length};
 ghost use Rattle.rules.specs.Lists.{keep};
 ghost use Rattle.rules.specs.Automation.{is_automation_of, same_messages, counts?, mirrors};
@@ -124,7 +126,7 @@ fn is_automation_of(word: u32, channel: u32) -> bool
 }
 
 // A place in a track: an event's number, and the tick before it.
-#[derive(Drop)]
+#[derive(Clone, Copy)]
 struct Place {
     at: usize,
     tick: SourceTick,
