@@ -1,4 +1,6 @@
 // Codes 4 and 5 of section 10: a track's offs without ons and its ons without offs, by the pairing that makes the raw notes.
+#![tactic(auto)]
+
 ghost use Rattle.std.specs.Prelude.{ℕ, ◌/◌, ◌%◌, List, ◌≡◌, length};
 ghost use Rattle.rules.specs.RawNotes.{Pairing};
 ghost use Rattle.rules.specs.Diagnostics.{unmatched_found};
