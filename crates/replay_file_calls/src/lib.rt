@@ -1,4 +1,6 @@
 // The calls on a file by number, each with its answer as numbers: what the program `replay` compares on files.
+#![tactic(auto)]
+
 ghost use Rattle.std.specs.Prelude.{◌≤◌, ◌≡◌, length};
 ghost use Rattle.files.specs.Answers.{piece_answer};
 ghost use Rattle.replay_answers.specs.Numbers.{saying};
