@@ -1,4 +1,6 @@
 // The staff of four voices that stand in the work area: its size, and the staff itself, counted before it is written. The bars go by a first track's changes.
+#![tactic(auto)]
+
 ghost use Rattle.std.specs.Prelude.{◌<◌, ◌^◌, ◌≡◌};
 ghost use Rattle.bar_walk.specs.Walk.{CanWalk};
 ghost use Rattle.staff.specs.Bars.{voices_of, VoicesHeld};
