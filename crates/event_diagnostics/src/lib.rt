@@ -1,4 +1,6 @@
 // Section 10, codes 2 and 3: the events of one track that are off the measure, and system events.
+#![tactic(auto)]
+
 ghost use Rattle.std.specs.Prelude.{◌*◌, ◌/◌, ◌≤◌, ◌<◌, ◌^◌, true, ◌≡◌, length};
 ghost use Rattle.rules.specs.Lists.{All};
 ghost use Rattle.rules.specs.Piece.{largest_size, byte_b, upper_figure, lower_figure, well_formed};
