@@ -1,4 +1,6 @@
 // The calls on heads: a piece's, the count of its parts, and a part's.
+#![tactic(auto)]
+
 ghost use Rattle.std.specs.Prelude.{◌≡◌};
 ghost use Rattle.rules.specs.Piece.{piece};
 ghost use Rattle.rules.specs.Calls.{part_count_call, part_head_call};

@@ -1,5 +1,4 @@
 -- `head`: the head is read off the first track.
-use borrow.Author.Rules.{rules}
 use mathlib.Core.Path.{sym, ap, ◌∙◌}
 use Rattle.rules.specs.Piece.{piece, first_track}
 use Rattle.rules.specs.Refusals.{given, note_refusals}

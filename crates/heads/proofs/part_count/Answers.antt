@@ -1,5 +1,4 @@
 -- `part_count`: the count that opening the piece gives.
-use borrow.Author.Rules.{rules}
 use mathlib.Core.Path.{sym, ap, ◌∙◌}
 use native.Mathlib.Omega.{arith}
 use Rattle.rules.specs.Refusals.{given, note_refusals}

@@ -1,5 +1,4 @@
 -- `part_head`: the head is read off the part's own track.
-use borrow.Author.Rules.{rules}
 use mathlib.Core.Path.{sym, ◌∙◌}
 use Rattle.rules.specs.Refusals.{part_refusals}
 use Rattle.laws.proofs.Refusals.{passes_given}
