@@ -68,6 +68,7 @@ fn item_of(head: u32, low: u64, high: u64) -> Item
 }
 
 // Whether a code and dots are a value of staffs: a whole number of ticks.
+#[tactic(auto, using(crate::proofs::Lengths::value_not))]
 fn is_value(p: u64, code: u32, dots: u32) -> bool
     requires { (p ≤ 65535) × (dots ≤ 1) }
     ensures { result ≡ (leb code 8 && leb dots 1 && is_whole p code dots) }
