@@ -41,8 +41,13 @@ keep_words f n t (d ∷ ds) (w ∷ ws) e =
 
 pub counting_start : (ws : List ℕ) (dropped : List Bool) {s : Counts} → s.bends ≡ 0 → s.controllers ≡ 0 → s.programs ≡ 0 → s.pressures ≡ 0
     → Counting ws dropped 0 s
-counting_start ws dropped b c g p =
-    record { each = λ k. elim k [ Bend ↦ omega arith | Controller ↦ omega arith | Program ↦ omega arith | Pressure ↦ omega arith ] }
+counting_start ws dropped {s} b c g p = record { each = each }
+  where
+    each : (k : Kind) → count_of k s + length (keep (wanted k dropped) (drop 0 ws)) ≡ length (keep (wanted k dropped) ws)
+    each Bend = omega arith
+    each Controller = omega arith
+    each Program = omega arith
+    each Pressure = omega arith
 
 module _ {ws : List ℕ} {dropped : List Bool} {i : ℕ} {s : Counts} (counting : Counting ws dropped i s) where
   pub counting_few : length ws ≤ most_events → AtMost most_events s

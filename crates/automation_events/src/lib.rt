@@ -1,4 +1,6 @@
 // Section 9: a part's bends, controllers, programs and pressures, at 480 ticks per quarter.
+#![tactic(auto)]
+
 ghost use Rattle.std.specs.Prelude.{◌<◌, true, ◌≡◌, length, set};
 ghost use Rattle.rules.specs.Lists.{flag, written};
 ghost use Rattle.rules.specs.Piece.{well_formed};
@@ -110,7 +112,7 @@ fn put_event(ticks: &mut [u64], out: &mut [u32], n: usize, tick: AutomationTick,
 }
 
 // What is written: the words of a kind on channels that are not dropped, at p ticks per quarter.
-#[derive(Drop)]
+#[derive(Clone, Copy)]
 struct Choice {
     kind: Kind,
     dropped: [bool; 16],
