@@ -1,5 +1,4 @@
 -- `bars`: the bars of the first track up to the end of the piece, counted before they are written.
-use borrow.Author.Rules.{rules}
 use mathlib.Core.Path.{◌≡◌}
 use native.Mathlib.Omega.{arith}
 use Prim.Native.Nat.{ℕ}
@@ -54,15 +53,14 @@ returns-then-marks-count c =
     c.if-starts-count.false c.if-marks-count.true
 
 pub midi_bars-requires : goal.midi_bars-requires
-midi_bars-requires c =
-    (
-      walk _ (notes_admitted _ c.open_notes-opened.ensures c.if-opened-ne0.false) c.bar_source-source.ensures
+midi_bars-requires c = (
+  walk _ (notes_admitted _ c.open_notes-opened.ensures c.if-opened-ne0.false) c.bar_source-source.ensures
       c.cut-first_deltas.ensures c.cut-first_words.ensures,
-      record {
-        starts_fit = omega (arith, c.count_bars-count.ensures, c.if-starts-count.false);
-        marks_fit = omega (arith, c.count_bars-count.ensures, c.if-marks-count.false);
-      },
-    )
+  record {
+    starts_fit = omega (arith, c.count_bars-count.ensures, c.if-starts-count.false);
+    marks_fit = omega (arith, c.count_bars-count.ensures, c.if-marks-count.false);
+  },
+)
 
 pub overflow_cast-result : goal.overflow_cast-result
 overflow_cast-result c =
