@@ -10,7 +10,7 @@ ghost use Rattle.track_events.specs.Track.{events_of};
 ghost use Rattle.bar_walk.specs.Walk.{CanWalk};
 ghost use Rattle.proofread_notes.specs.Columns.{Readable};
 ghost use Rattle.proofread_voices.specs.Voices.{Fits};
-ghost use Rattle.proofread_staff.specs.Staffs.{raws_at, headsMean?, Shapes, with_bar, Measures, answer_of, answer_on};
+ghost use Rattle.proofread_staff.specs.Staffs.{raws_at, heads_mean?, Shapes, with_bar, Measures, answer_of, answer_on};
 
 // The bars: how many, the last one's end, and whether each length is a multiple of the smallest written value.
 #[derive(Clone, Copy)]
@@ -144,7 +144,7 @@ fn measure(p: u64, deltas: &[u32], words: &[u32], end: u64, max_bars: usize, u: 
 
 // Whether no head has a bit that has no meaning.
 fn heads_mean(heads: &[u32]) -> bool
-    ensures { result ≡ headsMean? heads.now }
+    ensures { result ≡ heads_mean? heads.now }
 {
     let mut i = 0;
     while i < heads.len() {

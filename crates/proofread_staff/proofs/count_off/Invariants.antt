@@ -1,0 +1,14 @@
+-- `count_off` counts note after note. The loop's invariant: those counted and those left are all.
+use Prim.Native.Nat.{◌+◌, ◌-◌, ◌≤◌}
+use mathlib.Core.Path.{◌≡◌}
+use native.Mathlib.Omega.{arith}
+use Rattle.rules.specs.Grid.{off_count}
+use Rattle.proofread_staff.specs.Staffs.{raws_at}
+use Rattle.proofread_staff.proofs.Measuring.{off_left, off_all, off_one, off_none}
+use Rattle.proofread_staff.proofs.count_off.Given as goal
+
+abbrev pub invariant-loop-i : goal.invariant-loop-i
+invariant-loop-i l = (l.i ≤ l.m) × (l.offs + off_left l.p l.n l.m l.work l.i ≡ off_count l.p (raws_at l.n l.m l.work)) × (l.offs ≤ l.i)
+
+abbrev pub decreases-loop-i : goal.decreases-loop-i
+decreases-loop-i l = l.m - l.i

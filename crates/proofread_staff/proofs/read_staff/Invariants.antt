@@ -1,0 +1,20 @@
+-- `read_staff` reads voice after voice. The loop's invariant: the first v voices are right, and their chords have left their marks.
+use Prim.Native.Nat.{◌-◌}
+use mathlib.Core.Path.{◌∙◌}
+use mathlib.Core.List.{List}
+use native.Mathlib.Omega.{arith}
+use borrow.Author.Tests.{not-true, not-false}
+use Rattle.rules.specs.Bars.{Bar, bars_in}
+use Rattle.rules.specs.Items.{Staff, read_staff}
+use Rattle.track_events.specs.Track.{events_of}
+use Rattle.proofread_notes.specs.Columns.{Readable}
+use Rattle.proofread_notes.proofs.Areas.{readable_same, same_then}
+use Rattle.proofread_staff.proofs.Points.{Fours}
+use Rattle.proofread_staff.proofs.Staffing.{Voices, voices_start, voices_more, staff_fails, staff_end, fours_read}
+use Rattle.proofread_staff.proofs.read_staff.Given as goal
+
+abbrev pub invariant-loop-v : goal.invariant-loop-v
+invariant-loop-v l = Voices l.g l.n l.m l.e l.p (bars_in l.max_bars l.p (events_of l.deltas l.words) l.end) (read_staff (record { counts = l.counts; heads = l.heads; keys = l.keys })) l.initial.work l.work l.v
+
+abbrev pub decreases-loop-v : goal.decreases-loop-v
+decreases-loop-v l = 4 - l.v
