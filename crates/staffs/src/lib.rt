@@ -1,4 +1,6 @@
 // The calls on a part's staff: its size, and the staff itself. Both open the part, and spread its notes over four voices in the work area.
+#![tactic(auto)]
+
 ghost use Rattle.std.specs.Prelude.{◌≡◌, length};
 ghost use Rattle.rules.specs.Refusals.{as_it_is};
 ghost use Rattle.rules.specs.Piece.{piece};
