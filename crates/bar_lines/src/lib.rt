@@ -1,4 +1,6 @@
 // The lines of a bar, of a part and of a refusal on a printed page.
+#![tactic(auto)]
+
 ghost use Rattle.std.specs.Prelude.{◌+◌, ◌≤◌, ◌≡◌, length};
 ghost use Rattle.rules.specs.Bars.{bar_length};
 ghost use Rattle.line_text.specs.Text.{Adds};

@@ -4,7 +4,6 @@ use native.Mathlib.Omega.{arith}
 use native.Mathlib.Nat.{mul-le-mul, div-zero}
 use mathlib.Core.Path.{sym}
 use Prim.Native.Nat.{◌*◌, ◌≤◌}
-use borrow.Author.Rules.{rules}
 use Rattle.bar_lines.proofs.bar_length.Goals as goal
 
 pub returns-then-lower-eq0 : goal.returns-then-lower-eq0

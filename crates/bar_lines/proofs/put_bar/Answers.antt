@@ -1,7 +1,6 @@
 -- `bar_lines::put_bar` puts a bar's line: its head and its marks, by the fields that are unpacked.
 use mathlib.Core.Path.{ap}
 use native.Mathlib.Omega.{arith}
-use borrow.Author.Rules.{rules}
 use Rattle.bar_marks.specs.declared.Mark.{Mark}
 use Rattle.line_text.proofs.Texts.{adds_both, adds_eq, adds_most}
 use Rattle.bar_lines.specs.Lines.{meter_of, bar_head, bar_marks}

@@ -4,7 +4,6 @@ use mathlib.Core.Path.{ap}
 use Rattle.line_text.specs.Text.{decimal}
 use Rattle.bar_lines.specs.Lines.{bar_head}
 use Rattle.line_text.proofs.Texts.{adds_eq, adds_both}
-use borrow.Author.Rules.{rules}
 use Rattle.bar_lines.proofs.put_bar_head.Goals as goal
 
 pub returns : goal.returns

@@ -1,7 +1,6 @@
 -- `bar_lines::put_bar_marks` puts meter, tempo and key, each behind a space.
 use Rattle.bar_lines.specs.Lines.{bar_marks}
 use Rattle.line_text.proofs.Texts.{adds_both}
-use borrow.Author.Rules.{rules}
 use Rattle.bar_lines.proofs.put_bar_marks.Goals as goal
 
 pub returns : goal.returns

@@ -3,7 +3,6 @@ use Rattle.bar_lines.specs.Lines.{fifths_text}
 use borrow.Author.Tests.{lt-ltb, le-ltb}
 use native.Mathlib.Omega.{arith}
 use Rattle.line_text.proofs.Texts.{adds_both, adds_most}
-use borrow.Author.Rules.{rules}
 use Rattle.bar_lines.proofs.put_fifths.Goals as goal
 
 pub returns-then-raised-lt8 : goal.returns-then-raised-lt8

@@ -2,7 +2,6 @@
 use Rattle.bar_lines.specs.Lines.{meter_text}
 use native.Mathlib.Omega.{arith}
 use Rattle.line_text.proofs.Texts.{adds_both, adds_most}
-use borrow.Author.Rules.{rules}
 use Rattle.bar_lines.proofs.put_meter.Goals as goal
 
 pub returns-then-printed : goal.returns-then-printed

@@ -1,7 +1,6 @@
 -- `bar_lines::put_part` puts a part's line.
 use Rattle.line_text.proofs.Texts.{adds_both, adds_most}
 use native.Mathlib.Omega.{arith}
-use borrow.Author.Rules.{rules}
 use Rattle.bar_lines.proofs.put_part.Goals as goal
 
 pub returns : goal.returns

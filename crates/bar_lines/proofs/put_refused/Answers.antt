@@ -1,7 +1,6 @@
 -- `bar_lines::put_refused` puts a refusal's line.
 use native.Mathlib.Omega.{arith}
 use Rattle.line_text.proofs.Texts.{adds_both, adds_most}
-use borrow.Author.Rules.{rules}
 use Rattle.bar_lines.proofs.put_refused.Goals as goal
 
 pub returns : goal.returns

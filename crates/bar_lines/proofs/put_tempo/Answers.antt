@@ -3,7 +3,6 @@ use Rattle.bar_lines.specs.Lines.{tempo_text}
 use borrow.Author.Tests.{eq-eqb, ne_eqb}
 use native.Mathlib.Omega.{arith}
 use Rattle.line_text.proofs.Texts.{adds_most}
-use borrow.Author.Rules.{rules}
 use Rattle.bar_lines.proofs.put_tempo.Goals as goal
 
 pub returns-then-tempo-eq0 : goal.returns-then-tempo-eq0
