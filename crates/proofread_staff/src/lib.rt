@@ -1,4 +1,6 @@
 // Section 8: the proof-reader. It goes by raw notes, their grid and the bars alone, and works out the grid, snapping and values by itself.
+#![tactic(auto)]
+
 ghost use Rattle.std.specs.Prelude.{◌*◌, ◌≤◌, ◌<◌, max, ◌≡◌, length};
 ghost use Rattle.rules.specs.Lists.{flag};
 ghost use Rattle.rules.specs.Bars.{bars_in, most_bars, last_bar_end};

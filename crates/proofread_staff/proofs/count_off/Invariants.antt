@@ -1,10 +1,9 @@
 -- `count_off` counts note after note. The loop's invariant: those counted and those left are all.
 use Prim.Native.Nat.{◌+◌, ◌-◌, ◌≤◌}
 use mathlib.Core.Path.{◌≡◌}
-use native.Mathlib.Omega.{arith}
 use Rattle.rules.specs.Grid.{off_count}
 use Rattle.proofread_staff.specs.Staffs.{raws_at}
-use Rattle.proofread_staff.proofs.Measuring.{off_left, off_all, off_one, off_none}
+use Rattle.proofread_staff.proofs.Measuring.{off_left}
 use Rattle.proofread_staff.proofs.count_off.Given as goal
 
 abbrev pub invariant-loop-i : goal.invariant-loop-i

@@ -1,8 +1,4 @@
-use Prim.Native.Nat.{◌-◌}
-use mathlib.Core.Path.{◌≡◌, refl}
-use native.Mathlib.Omega.{arith}
-use lib.ListN.{length, drop}
-use Rattle.proofread_staff.specs.Staffs.{heads_mean?}
+use mathlib.Core.Path.{refl}
 use Rattle.proofread_staff.proofs.Shapes.{mean_fails, mean_goes, mean_end}
 use Rattle.proofread_staff.proofs.heads_mean.Goals as goal
 
@@ -10,13 +6,13 @@ pub loop-i-init : goal.loop-i-init
 loop-i-init c = refl
 
 pub returns-then-heads-i-ge512 : goal.returns-then-heads-i-ge512
-returns-then-heads-i-ge512 c = 
+returns-then-heads-i-ge512 c =
     let a = c.args in
     let l = c.loop-i in
     mean_fails a.heads.now l.i c.loop-i-test.true c.if-heads-i-ge512.true l.invariant
 
 pub loop-i-preserved : goal.loop-i-preserved
-loop-i-preserved c = 
+loop-i-preserved c =
     let a = c.args in
     let l = c.loop-i in
     mean_goes a.heads.now l.i c.loop-i-test.true c.if-heads-i-ge512.false l.invariant

@@ -1,10 +1,8 @@
 -- `heads_mean` tests head after head. The loop's invariant: the test of the heads from i on is the test of all.
 use Prim.Native.Nat.{◌-◌}
-use mathlib.Core.Path.{◌≡◌, refl}
-use native.Mathlib.Omega.{arith}
+use mathlib.Core.Path.{◌≡◌}
 use lib.ListN.{length, drop}
 use Rattle.proofread_staff.specs.Staffs.{heads_mean?}
-use Rattle.proofread_staff.proofs.Shapes.{mean_fails, mean_goes, mean_end}
 use Rattle.proofread_staff.proofs.heads_mean.Given as goal
 
 abbrev pub invariant-loop-i : goal.invariant-loop-i

@@ -1,10 +1,9 @@
-use Prim.Native.Nat.{◌-◌}
 use mathlib.Core.Path.{ap}
 use native.Mathlib.Omega.{arith}
 use Rattle.bar_walk.proofs.WalkLaws.{walking_sane, walking_ready}
 use Rattle.bar_walk.specs.declared.Walker.{Walker}
 use Rattle.proofread_staff.specs.declared.Measured.{Measured}
-use Rattle.proofread_staff.proofs.Measuring.{Measuring, measuring_start, measuring_last, measuring_more, measuring_end, long}
+use Rattle.proofread_staff.proofs.Measuring.{measuring_start, measuring_last, measuring_more, measuring_end, long}
 use Rattle.proofread_staff.proofs.measure.Goals as goal
 
 pub first_bar-walker-requires : goal.first_bar-walker-requires
@@ -20,28 +19,28 @@ pub overflow_sub-next : goal.overflow_sub-next
 overflow_sub-next c = omega (arith, ap (λ (w : Walker). w.start) c.next_bar-next.ensures)
 
 pub with_bar-x-requires : goal.with_bar-x-requires
-with_bar-x-requires c = 
+with_bar-x-requires c =
     let q = c.requires in
     (q.2, omega (arith, c.loop-x-test.true, q.1))
 
 pub returns-then-end-next : goal.returns-then-end-next
-returns-then-end-next c = 
+returns-then-end-next c =
     let next = c.next_bar-next.ensures in
     rw (c.with_bar-x.ensures, next)
     (measuring_last c.loop-x.invariant c.loop-x-test.true _ (long c.loop-x.walker) (rw next at c.if-end-next.true))
 
 pub take_changes-walker-requires : goal.take_changes-walker-requires
-take_changes-walker-requires c = 
+take_changes-walker-requires c =
     let next = c.next_bar-next.ensures in
     let q = c.requires in
     rw next (walking_ready c.loop-x.invariant.walking q.0.track _ q.0.end_fits (rw next at c.if-end-next.false))
 
 pub loop-x-smaller : goal.loop-x-smaller
-loop-x-smaller c = 
+loop-x-smaller c =
     omega (arith, c.loop-x-test.true, ap (λ (y : Measured). y.bars) c.with_bar-x.ensures)
 
 pub loop-x-preserved : goal.loop-x-preserved
-loop-x-preserved c = 
+loop-x-preserved c =
     let next = c.next_bar-next.ensures in
     rw (c.with_bar-x.ensures, next)
     (measuring_more c.loop-x.invariant c.loop-x-test.true _ (long c.loop-x.walker) c.requires.0.end_fits

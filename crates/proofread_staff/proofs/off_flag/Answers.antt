@@ -1,6 +1,5 @@
 -- `off_flag` is the test as a number.
 use native.Mathlib.Omega.{arith}
-use borrow.Author.Rules.{rules}
 use Rattle.proofread_staff.proofs.off_flag.Goals as goal
 
 pub returns-then-is_off : goal.returns-then-is_off

@@ -1,44 +1,36 @@
 -- `read_part` asks for evenness first, then for the arrays' shape, then for the staff.
-use mathlib.Core.Bool.{Bool}
-use mathlib.Core.List.{List}
-use mathlib.Core.Path.{◌≡◌, sym, ◌∙◌}
+use mathlib.Core.Path.{sym, ◌∙◌}
 use native.Mathlib.Omega.{arith}
 use borrow.Author.Tests.{not-true, not-false}
-use borrow.Author.Rules.{rules}
-use Rattle.rules.specs.RawNotes.{RawNote}
-use Rattle.rules.specs.Bars.{bars_in}
-use Rattle.rules.specs.Items.{StaffArrays}
-use Rattle.rules.specs.Refusals.{Result, given}
-use Rattle.track_events.specs.Track.{events_of}
-use Rattle.proofread_staff.specs.Staffs.{raws_at, answer_on}
+use Rattle.proofread_staff.specs.Staffs.{raws_at}
 use Rattle.proofread_staff.proofs.Answers.{fits_of, uneven_grid, uneven_bars, malformed, answered}
 use Rattle.proofread_staff.proofs.read_part.Goals as goal
 
 pub measure-x-requires : goal.measure-x-requires
-measure-x-requires c = 
+measure-x-requires c =
     let q = c.requires in
     (q.0, q.2, c.smallest_value-u.ensures.1)
 
 pub returns-then-g-u-ne0 : goal.returns-then-g-u-ne0
-returns-then-g-u-ne0 c = 
+returns-then-g-u-ne0 c =
     let a = c.args in
     uneven_grid a.p a.g (raws_at a.n a.m a.work.now)
     (record { counts = a.counts.now; heads = a.heads.now; keys = a.keys.now }) c.smallest_value-u.ensures.0 c.measure-x.ensures
     c.if-g-u-ne0.true
 
 pub returns-then-not-x : goal.returns-then-not-x
-returns-then-not-x c = 
+returns-then-not-x c =
     let a = c.args in
     uneven_bars a.p a.g (raws_at a.n a.m a.work.now)
     (record { counts = a.counts.now; heads = a.heads.now; keys = a.keys.now }) c.smallest_value-u.ensures.0 c.measure-x.ensures
     c.if-g-u-ne0.false (not-true c.measure-x.result.even c.if-not-x.true)
 
 pub shaped-requires : goal.shaped-requires
-shaped-requires c = 
+shaped-requires c =
     omega (arith, c.measure-x.ensures.few, c.requires.2)
 
 pub returns-then-not-shaped : goal.returns-then-not-shaped
-returns-then-not-shaped c = 
+returns-then-not-shaped c =
     let a = c.args in
     malformed a.p a.g (raws_at a.n a.m a.work.now)
     (record { counts = a.counts.now; heads = a.heads.now; keys = a.keys.now }) c.smallest_value-u.ensures.0 c.measure-x.ensures
@@ -46,7 +38,7 @@ returns-then-not-shaped c =
     c.shaped.ensures c.if-not-shaped.true
 
 pub read_staff-requires : goal.read_staff-requires
-read_staff-requires c = 
+read_staff-requires c =
     let q = c.requires in
     let measured = c.measure-x.ensures in (
       q.3,
@@ -56,19 +48,17 @@ read_staff-requires c =
     )
 
 pub returns-then-read_staff : goal.returns-then-read_staff
-returns-then-read_staff c = 
+returns-then-read_staff c =
     let a = c.args in
     answered a.p a.g (raws_at a.n a.m a.work.now) (record { counts = a.counts.now; heads = a.heads.now; keys = a.keys.now })
     c.smallest_value-u.ensures.0 c.measure-x.ensures
     c.if-g-u-ne0.false (not-false c.measure-x.result.even c.if-not-x.false)
     c.shaped.ensures c.if-not-shaped.false (sym c.if-read_staff.true ∙ c.read_staff.ensures)
 
-
 pub returns : goal.returns
-returns c = 
+returns c =
     let a = c.args in
     answered a.p a.g (raws_at a.n a.m a.work.now) (record { counts = a.counts.now; heads = a.heads.now; keys = a.keys.now })
     c.smallest_value-u.ensures.0 c.measure-x.ensures
     c.if-g-u-ne0.false (not-false c.measure-x.result.even c.if-not-x.false)
     c.shaped.ensures c.if-not-shaped.false (sym c.if-read_staff.false ∙ c.read_staff.ensures)
-

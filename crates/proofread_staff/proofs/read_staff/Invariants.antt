@@ -1,16 +1,9 @@
 -- `read_staff` reads voice after voice. The loop's invariant: the first v voices are right, and their chords have left their marks.
 use Prim.Native.Nat.{◌-◌}
-use mathlib.Core.Path.{◌∙◌}
-use mathlib.Core.List.{List}
-use native.Mathlib.Omega.{arith}
-use borrow.Author.Tests.{not-true, not-false}
-use Rattle.rules.specs.Bars.{Bar, bars_in}
-use Rattle.rules.specs.Items.{Staff, read_staff}
+use Rattle.rules.specs.Bars.{bars_in}
+use Rattle.rules.specs.Items.{read_staff}
 use Rattle.track_events.specs.Track.{events_of}
-use Rattle.proofread_notes.specs.Columns.{Readable}
-use Rattle.proofread_notes.proofs.Areas.{readable_same, same_then}
-use Rattle.proofread_staff.proofs.Points.{Fours}
-use Rattle.proofread_staff.proofs.Staffing.{Voices, voices_start, voices_more, staff_fails, staff_end, fours_read}
+use Rattle.proofread_staff.proofs.Staffing.{Voices}
 use Rattle.proofread_staff.proofs.read_staff.Given as goal
 
 abbrev pub invariant-loop-v : goal.invariant-loop-v

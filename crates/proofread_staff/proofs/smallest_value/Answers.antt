@@ -1,9 +1,6 @@
-use Prim.Native.Nat.{◌-◌, ◌<◌}
-use mathlib.Core.Path.{◌≡◌, sym, ◌∙◌}
+use mathlib.Core.Path.{sym, ◌∙◌}
 use native.Mathlib.Omega.{arith}
 use Rattle.laws.proofs.Values.{smallest_halved, halved_odd, halved_zero}
-use Rattle.laws.specs.Ladder.{halved}
-use Rattle.rules.specs.Values.{smallest}
 use Rattle.proofread_staff.proofs.Shapes.{smallest_step}
 use Rattle.proofread_staff.proofs.smallest_value.Goals as goal
 
@@ -14,7 +11,7 @@ pub returns-then-u-ne0 : goal.returns-then-u-ne0
 returns-then-u-ne0 c = let l = c.loop-k in (sym (halved_odd _ l.u c.if-u-ne0.true) ∙ l.invariant.0, l.invariant.1)
 
 pub loop-k-preserved : goal.loop-k-preserved
-loop-k-preserved c = 
+loop-k-preserved c =
     let l = c.loop-k in
     (smallest_step l.k l.u c.loop-k-test.true c.if-u-ne0.false l.invariant.0, omega (arith, l.invariant.1, c.if-u-ne0.false))
 

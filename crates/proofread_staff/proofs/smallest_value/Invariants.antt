@@ -1,11 +1,8 @@
 -- `smallest_value` halves p. The loop's invariant: what is halved from here on gives the smallest value.
 use Prim.Native.Nat.{◌-◌, ◌<◌}
-use mathlib.Core.Path.{◌≡◌, sym, ◌∙◌}
-use native.Mathlib.Omega.{arith}
-use Rattle.laws.proofs.Values.{smallest_halved, halved_odd, halved_zero}
+use mathlib.Core.Path.{◌≡◌}
 use Rattle.laws.specs.Ladder.{halved}
 use Rattle.rules.specs.Values.{smallest}
-use Rattle.proofread_staff.proofs.Shapes.{smallest_step}
 use Rattle.proofread_staff.proofs.smallest_value.Given as goal
 
 abbrev pub invariant-loop-k : goal.invariant-loop-k
