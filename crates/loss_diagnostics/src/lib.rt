@@ -1,5 +1,7 @@
 // Section 10: the diagnostics of a piece, as places and details. The queues of pending starts are made once; each track leaves
 // them empty.
+#![tactic(auto)]
+
 ghost use Rattle.std.specs.Prelude.{◌+◌, ◌≤◌, ◌<◌, ◌^◌, [], map, ◌≡◌, length};
 ghost use Rattle.rules.specs.Lists.{written};
 ghost use Rattle.rules.specs.Piece.{piece, tracks};
