@@ -65,13 +65,13 @@ holds_past {s} {i} [] js h =
     subst (λ n. Holds s n js) e h
 holds_past {s} {i} (x ∷ is) js h =
     let e : i + 1 + length is ≡ i + suc (length is) = omega arith in
-    subst (λ n. Holds s n js) e (holds_past is js (holds_rest h))
+    subst (λ n. Holds s n js) e (holds_past {i = i + 1} is js (holds_rest h))
 
 item_lines : {s : Sheet} {i : ℕ} (voice : ℕ) (is js : List Item) → Holds s i (is ++ js) → items_at s voice (length is) i ≡ voice_lines voice is
 unfolding items_at flat_map
 item_lines voice [] js h = refl
-item_lines voice (x ∷ is) js h =
-    rw (from_first h.heads, from_first h.keys, from_first (from_rest h.keys), item_lines voice is js (holds_rest h))
+item_lines {i = i} voice (x ∷ is) js h =
+    rw (from_first h.heads, from_first h.keys, from_first (from_rest h.keys), item_lines {i = i + 1} voice is js (holds_rest h))
 
 -- ---- counts
 
@@ -79,7 +79,7 @@ module _ (s : Sheet) where
   sums_items : {c : ℕ} (vs : List (List Item)) → From s.counts c (map length vs) → items_from s (length vs) c ≡ sum (map length vs)
   unfolding items_from sum
   sums_items [] h = refl
-  sums_items (is ∷ vs) h = rw (from_first h, sums_items vs (from_rest h))
+  sums_items {c = c} (is ∷ vs) h = rw (from_first h, sums_items {c = c + 1} vs (from_rest h))
 
   module _ (p b : ℕ) where
     abbrev line_of : Line
@@ -138,7 +138,7 @@ module _ (s : Sheet) where
       let h4 = from_rest (from_rest (from_rest (from_rest h))) in
       let k4 = holds_past v3 js (holds_past v2 (v3 ++ js) (holds_past v1 (v2 ++ (v3 ++ js)) (holds_past v0 (v1 ++ (v2 ++ (v3 ++ js))) k))) in
       rw (e, bar_lines p b (4 * length st) v0 v1 v2 v3 js h k, from_first hs, from_first hm)
-      (rw (staff_lines p (b + 1) st ss ms f.1 (omega arith) (omega arith) (rw c at h4) k4 (from_rest hs) (from_rest hm))))
+      (rw (staff_lines {i = i + length v0 + length v1 + length v2 + length v3} p (b + 1) st ss ms f.1 (omega arith) (omega arith) (rw c at h4) k4 (from_rest hs) (from_rest hm))))
       vs f.0 h k
 
 -- ---- a staff, written to the front of the arrays

@@ -1,4 +1,6 @@
 // The page of a piece: its definition, and a part's lines put into lent bytes one after another.
+#![tactic(auto)]
+
 ghost use Rattle.std.specs.Prelude.{◌+◌, ◌*◌, ◌≤◌, ◌<◌, ◌≡◌, length, get_or};
 ghost use Rattle.item_lines.specs.Items.{item_line};
 ghost use Rattle.bar_lines.specs.Lines.{bar_line, part_line};
