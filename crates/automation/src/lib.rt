@@ -1,4 +1,6 @@
 // The call on a part's automation.
+#![tactic(auto)]
+
 ghost use Rattle.rules.specs.Refusals.{as_it_is};
 ghost use Rattle.rules.specs.Piece.{piece, largest_size};
 ghost use Rattle.rules.specs.Calls.{automation_call, AutomationCalled};
