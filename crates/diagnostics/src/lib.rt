@@ -1,4 +1,6 @@
 // The call on a piece's diagnostics.
+#![tactic(auto)]
+
 ghost use Rattle.rules.specs.Refusals.{as_it_is};
 ghost use Rattle.rules.specs.Piece.{piece};
 ghost use Rattle.rules.specs.Calls.{diagnostics_call, DiagnosticsCalled};
