@@ -1,5 +1,7 @@
 // The proof-reader's call: a piece, a part number and a staff. Refusals 1 to 9, then yes or no. The bars go by the first track and the end of
 // the piece, the notes by the part's own track, on their own grid.
+#![tactic(auto)]
+
 ghost use Rattle.std.specs.Prelude.{◌≡◌, length};
 ghost use Rattle.rules.specs.Refusals.{as_it_is};
 ghost use Rattle.rules.specs.Piece.{piece};

@@ -3,11 +3,9 @@
 use Prim.Native.Nat.{◌≤◌}
 use mathlib.Core.Path.{sym, ap, ◌∙◌}
 use native.Mathlib.Omega.{arith}
-use borrow.Author.Rules.{rules}
 use lib.ListN.{length, replicate}
 use Rattle.rules.specs.Piece.{Piece, piece}
 use Rattle.rules.specs.Refusals.{part_refusals, work_for}
-use Rattle.laws.specs.Admitted.{Admitted}
 use Rattle.opening.proofs.Opening.{refuses, work_short, few_notes, cut_deltas, cut_words, part_passes, part_admitted, own_track, few_ons}
 use Rattle.bar_source.proofs.Sources.{positive, walked}
 use Rattle.proofread.proofs.Reading.{readable, reading_given}
