@@ -20,7 +20,6 @@ use Rattle.rules.specs.Refusals.{refused, given, unless}
 use Rattle.rules.specs.Values.{ticks_of, dotted, beats256}
 use Rattle.rules.specs.Refusals.{bad_code, bad_dots}
 use Rattle.rules.specs.Calls.{beats_call}
-use Rattle.laws.proofs.Order.{Past, past}
 use Rattle.duration.specs.Calls.{code_of, fraction_of, coded_call, Exactly}
 use Rattle.duration.specs.declared.Fraction.{Fraction}
 use Rattle.duration.specs.declared.Duration.{Duration}
@@ -75,9 +74,9 @@ pub given_code : {code : ℕ} (k : ℕ) → code ≡ k → T (leb k 9) → given
 unfolding unless
 given_code k e t = rw e (rw (le-ltb 9 k (leb→le k 9 t)))
 
-pub refused_code : (code : ℕ) → Past 10 code → refused 10 ≡ coded_call code
+pub refused_code : (code : ℕ) → 10 ≤ code → refused 10 ≡ coded_call code
 unfolding unless
-refused_code code p = rw (lt-ltb 9 code (past 10 code p))
+refused_code code p = rw (lt-ltb 9 code (omega arith))
 
 pub passed : {A : Type 0} (a : A) (d : Duration) (dots : ℕ) → dots ≤ 3 → unless (bad_code (code_of d) ∷ bad_dots dots ∷ []) a ≡ given a
 unfolding unless

@@ -1,4 +1,5 @@
 // The written values of section 6, as duration.rs has them: each by its name or its code, with its length in ticks and in beats.
+#![tactic(auto)]
 
 ghost use Rattle.std.specs.Prelude.{◌≡◌, ◌*◌, ◌^◌, ◌<◌};
 ghost use Rattle.duration.specs.Calls.{code_of, fraction_of, coded_answer, coded_call, ticks_answer, ticks_call, measured_answer, Exactly};
