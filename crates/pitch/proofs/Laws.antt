@@ -14,7 +14,6 @@ use mir.Val.{SFits, to_z, of_z}
 use mir.Facts.{sfits_widen, to_z-of_z, to_z_pos}
 use Rattle.rules.specs.Refusals.{refused, given, unless}
 use Rattle.rules.specs.Spelling.{Name, C, natural, sharp_names, flat_names}
-use Rattle.laws.proofs.Order.{Past, past}
 use Rattle.pitch.specs.Calls.{either_call}
 
 -- ---- signed sums
@@ -42,7 +41,7 @@ mag_twelve (negsuc a) = omega (arith, mag_neg (suc a * 12))
 
 -- A signed local holds bits. What fits is read back as it was, also after it was widened.
 pub read_wide : (z : ℤ) → SFits w8 z → to_z w16 (of_z w16 (to_z w8 (of_z w8 z))) ≡ z
-read_wide z f = rw (to_z-of_z f) (to_z-of_z (sfits_widen tt f))
+read_wide z f = rw (to_z-of_z f) (to_z-of_z {w = w16} (sfits_widen {w = w8} {w' = w16} {z = z} (tt {0}) f))
 
 pub read_step : (n : ℕ) → n < 256 → to_z w16 n ≡ pos n
 read_step n h = to_z_pos w16 (omega arith)
@@ -75,8 +74,8 @@ module _ (o : ℤ) (f : SFits w8 o) where
 pub name_at : (names : List Name) (k : ℕ) {pc : ℕ} → pc ≡ k → get_or names k (natural C) ≡ get_or names pc (natural C)
 name_at names k e = rw e
 
-pub name_past : (names : List Name) (pc : ℕ) → Past (length names) pc → natural C ≡ get_or names pc (natural C)
-name_past names pc p = sym (get_or-eq_default names (natural C) (past (length names) pc p))
+pub name_past : (names : List Name) (pc : ℕ) → length names ≤ pc → natural C ≡ get_or names pc (natural C)
+name_past names pc p = sym (get_or-eq_default names (natural C) p)
 
 -- ---- spellings
 

@@ -1,4 +1,5 @@
 // Pitches, as pitch.rs has them, and the spelling of a key (section 7, midi_to_pitch). Middle C, key 60, is C 4.
+#![tactic(auto)]
 
 ghost use Rattle.std.specs.Prelude.{◌≡◌, pos, get_or};
 ghost use Rattle.rules.specs.Spelling.{semitone, sounds, C, natural, sharp_names, flat_names};
