@@ -9,7 +9,6 @@ use lib.ListN.{length, take, drop, replicate, length-replicate}
 use lib.Seq.{take_at}
 use Rattle.rules.specs.Lists.{written}
 use Rattle.rules.specs.Piece.{Piece}
-use Rattle.rules.specs.Bars.{bars}
 use Rattle.rules.specs.Refusals.{Result, refused, given, Refusal, unless, answers, writes, part_refusals, short_work, short_output, uneven_part}
 use Rattle.rules.specs.Refusals.{as_it_is, work_needed}
 use Rattle.rules.specs.Calls.{StaffSize, part_size, part_arrays, part_leftovers, part_lists, part_even, EngravedLists, engrave_call}

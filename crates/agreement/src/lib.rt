@@ -1,4 +1,6 @@
 // The engraver's staff and the proof-reader's verdict, brought together: a part is engraved, and what was written is proof-read.
+#![tactic(auto)]
+
 ghost use Rattle.rules.specs.Piece.{piece};
 ghost use Rattle.agreement.specs.Together.{both_answer, Together};
 

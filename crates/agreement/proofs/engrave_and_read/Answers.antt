@@ -1,10 +1,7 @@
 -- `engrave_and_read`: a refused engraving has its number; any other is handed to the proof-reader, neither more nor less of it, and the answer says
 -- whether it was read.
-use Prim.Native.Nat.{◌*◌, ◌≤◌}
 use mathlib.Core.Path.{sym, ap}
 use native.Mathlib.Omega.{arith}
-use borrow.Author.Rules.{rules}
-use lib.ListN.{length}
 use lib.Seq.{length-take-le}
 use Rattle.proofread.specs.Answers.{read_answer}
 use Rattle.staffs.specs.Parts.{answer_of}
