@@ -1,4 +1,6 @@
 // What a program's room gives: the number of a piece that it cannot print, by the work area or a part's items.
+#![tactic(auto)]
+
 ghost use Rattle.std.specs.Prelude.{◌<◌, [], ◌∷◌, ◌≡◌, length};
 ghost use Rattle.rules.specs.Piece.{piece};
 ghost use Rattle.rules.specs.RawNotes.{parts as RawNotes·parts};
