@@ -1,4 +1,6 @@
 // The calls by number, each with its answer as numbers: what the program `replay` compares.
+#![tactic(auto)]
+
 ghost use Rattle.std.specs.Prelude.{◌≤◌, ◌≡◌, length};
 ghost use Rattle.rules.specs.Piece.{piece};
 ghost use Rattle.replay_calls.specs.Outcomes.{outcome, left};
