@@ -1,4 +1,6 @@
 // A page opened: a piece, a text or a file first, then each part, and its lines put into lent bytes turn by turn.
+#![tactic(auto)]
+
 ghost use Rattle.std.specs.Prelude.{◌<◌, ◌≤◌, true, false, ◌≡◌, length};
 ghost use Rattle.rules.specs.Piece.{piece};
 ghost use Rattle.rules.specs.RawNotes.{parts as RawNotes·parts};

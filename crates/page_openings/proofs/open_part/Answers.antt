@@ -1,0 +1,27 @@
+-- `page_openings::open_part` opens the next part: engraving is not refused, and the same lines are ahead.
+use mathlib.Core.Path.{sym, ap}
+use native.Mathlib.Omega.{arith}
+use borrow.Author.Rules.{rules}
+use Rattle.staffs.specs.Parts.{answer_of}
+use Rattle.pages.proofs.Staffs.{part_ahead}
+use Rattle.page_openings.proofs.PartOpened.{not_refused, part_opened, opened_small}
+use Rattle.page_openings.proofs.open_part.Goals as goal
+
+pub overflow_add-result : goal.overflow_add-result
+overflow_add-result c = omega (arith, c.requires.number_value.2)
+
+pub returns-in-Refused : goal.returns-in-Refused
+returns-in-Refused c =
+    let a = c.requires in
+    absurd
+    (not_refused part_ahead _ c.args.place a.ready a.rooms (search rules) a.number_value.0 a.number_value.1 a.number_value.2
+    c.engrave.ensures _
+    (ap answer_of (sym c.in-Refused.is)))
+
+pub returns-in-Given : goal.returns-in-Given
+returns-in-Given c =
+    let a = c.requires in
+    rw (c.begin-spot.ensures, c.ticks_per_quarter-p.ensures)
+    (part_opened part_ahead _ c.args.place a.ready a.rooms (search rules) a.number_value.0 a.number_value.1 a.number_value.2
+    c.engrave.ensures
+    (opened_small _ a.ready a.number_value.2) _ (ap answer_of (sym c.in-Given.is)))
