@@ -3,8 +3,8 @@ use Rattle.std.specs.Prelude.{ℕ, pos, ◌≡◌}
 use Rattle.rules.specs.Refusals.{Result, refused, given}
 use Rattle.rules.specs.Spelling.{Step, C, D, E, F, G, A, B, Spelling}
 use Rattle.laws.specs.Exact.{Is256}
-use Rattle.acorde.specs.declared.values.AcordeBeats.{AcordeBeats}
-use Rattle.acorde.specs.declared.values.AcordeSpelling.{AcordeSpelling}
+use Rattle.acorde.specs.declared.value_entries.AcordeBeats.{AcordeBeats}
+use Rattle.acorde.specs.declared.value_entries.AcordeSpelling.{AcordeSpelling}
 
 -- the double is the length in quarters, so many 256ths, exactly; 0 beside a refusal
 abbrev pub BeatsEntered : Result ℕ → AcordeBeats → Type 0

@@ -1,4 +1,6 @@
 // The calls for C: a number beside the values, 0 where the call is answered; beside a refusal every value is 0.
+#![tactic(auto)]
+
 ghost use Rattle.std.specs.Prelude.{◌≡◌, length};
 ghost use Rattle.rules.specs.Lists.{flag};
 ghost use Rattle.rules.specs.Piece.{piece};
@@ -7,7 +9,7 @@ ghost use Rattle.rules.specs.Calls.{read_size_call, read_call, ReadCalled};
 ghost use Rattle.acorde.specs.Entries.{head_values, head_entry, count_entry, part_head_entry, automation_entry, staff_entry, reading_entry, piece_entry};
 ghost use Rattle.files.specs.Answers.{piece_answer};
 
-mod values;
+mod value_entries;
 
 use automation::AutomationAnswer;
 use bars::BarsAnswer;
