@@ -1,4 +1,6 @@
 // What is lent to a call that is asked: arrays full of other numbers, for proof read with the lists of the text at their fronts; and the call made in them.
+#![tactic(auto)]
+
 ghost use Rattle.std.specs.Prelude.{◌≡◌, length};
 ghost use Rattle.rules.specs.Piece.{piece};
 ghost use Rattle.replayed.specs.Differences.{others};
