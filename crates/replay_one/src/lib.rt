@@ -1,4 +1,6 @@
 // One call of a list: read from the text, made in arrays full of other numbers, and all that it left compared with the list.
+#![tactic(auto)]
+
 ghost use Rattle.std.specs.Prelude.{◌≤◌, ◌≡◌, length};
 ghost use Rattle.rules.specs.Piece.{piece};
 ghost use Rattle.replay_calls.specs.Outcomes.{left};
