@@ -1,4 +1,6 @@
 // The lines that the program `replay` writes. No contract can say what is written; what is counted is proved elsewhere.
+#![tactic(auto)]
+
 use replay_one::Compared;
 use replayed::Difference;
 
