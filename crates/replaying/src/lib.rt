@@ -1,5 +1,7 @@
 // A list of a reference's answers, held against the calls: its pieces and files one after another, each with its calls, counted to the end, with a line
 // for each disagreement.
+#![tactic(auto)]
+
 ghost use Rattle.std.specs.Prelude.{◌≤◌, ◌≡◌, length, take};
 ghost use Rattle.rules.specs.Piece.{piece};
 ghost use Rattle.replay_text.specs.Numbers.{list_at, most_narrow, most_byte};
