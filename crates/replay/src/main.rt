@@ -1,7 +1,11 @@
 // Replays a stored list of a reference's answers against the calls: reads the list, has it compared, and writes how many pieces, calls and
 // disagreements there are. docs/REPLAY.md has the form.
-use libc::STDIN_FILENO;
+#![tactic(auto)]
+
 use replaying::Run;
+
+// The descriptor of standard input.
+const STDIN: i32 = 0;
 
 // The list compared, in arrays of its own.
 fn compare(text: &[u8]) -> Run {
@@ -34,7 +38,7 @@ fn compare(text: &[u8]) -> Run {
 
 // The list of standard input. One that fills the room for it is not held whole.
 fn replay(text: &mut [u8]) {
-    let n = io::read_full(STDIN_FILENO, text);
+    let n = io::read_full(STDIN, text);
     if n == text.len() {
         replay_lines::fault(0, replay_text::LONG);
         replay_lines::total(0, 0, 1);
