@@ -1,4 +1,6 @@
 // Prints the page of a text or of what was opened, in arrays of its own.
+#![tactic(auto)]
+
 ghost use Rattle.std.specs.Prelude.{◌≤◌, length};
 ghost use Rattle.piece_input.specs.Input.{ReadText};
 ghost use Rattle.page_openings.specs.Places.{Within};

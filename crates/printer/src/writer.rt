@@ -7,8 +7,10 @@ ghost use Rattle.pages.specs.Spots.{sheet};
 ghost use Rattle.page_openings.specs.Places.{Ready, Rooms, Within};
 ghost use Rattle.printer.specs.Turns.{Nearer, ReadyFor};
 
-use libc::STDOUT_FILENO;
 use page_openings::{Opened, Place};
+
+// Standard output.
+const STDOUT: i32 = 1;
 
 // A turn: the place behind what was written.
 fn turn(
@@ -39,7 +41,7 @@ fn turn(
     );
     let put = page_openings::put_lines(open, counts, heads, keys, starts, marks, out);
     let n = put.at;
-    io::write_all(STDOUT_FILENO, &out[..n]);
+    io::write_all(STDOUT, &out[..n]);
     put.place
 }
 
