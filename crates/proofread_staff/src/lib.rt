@@ -145,6 +145,7 @@ fn measure(p: u64, deltas: &[u32], words: &[u32], end: u64, max_bars: usize, u: 
 // ---- the arrays
 
 // Whether no head has a bit that has no meaning.
+#[tactic(auto, using(crate::proofs::Shapes::mean_fails))]
 fn heads_mean(heads: &[u32]) -> bool
     ensures { result ≡ heads_mean? heads.now }
 {
