@@ -337,6 +337,11 @@ from_status bs at =
       behind = record { rest = p.behind.rest; ahead = omega (arith, p.behind.ahead); within = p.behind.within };
     })
 
+-- a system event of F0, behind its status
+pub system_first : (bs : List ℕ) (running at s : ℕ) (t : Option Taken) → s ≡ 240 → s ≡ get_or bs at 256
+    → Agrees (MessageIs bs (at + 1)) (system_message s (drop (at + 1) bs)) t → Agrees (MessageIs bs at) (message running (drop at bs)) t
+system_first bs running at s t e byte h = rw (by_system bs running at s byte (omega arith) (omega arith) (inl e)) (from_status bs at _ t h)
+
 -- ---- events with their delta
 
 module _ (bs : List ℕ) (running at : ℕ) where

@@ -86,6 +86,7 @@ fn byte_at(bytes: &[u8], at: usize) -> u32
 }
 
 // A variable-length quantity of at most four bytes.
+#[tactic(auto, using(crate::proofs::Laws::partly_last))]
 fn read_number(bytes: &[u8], at: usize) -> Number
     requires { at ≤ length bytes.now }
     ensures { Agrees (NumberIs bytes.now at) (number (drop at bytes.now)) (number_read result) }
@@ -289,6 +290,7 @@ fn system_message(bytes: &[u8], status: u32, at: usize) -> MessageRead
 }
 
 // An event behind its delta. A first byte below 128 is data under the running status.
+#[tactic(auto, using(crate::proofs::Laws::system_first))]
 fn read_message(bytes: &[u8], running: u32, at: usize) -> MessageRead
     requires { Status running × (at ≤ length bytes.now) }
     ensures { Agrees (MessageIs bytes.now at) (message running (drop at bytes.now)) (message_read result) }

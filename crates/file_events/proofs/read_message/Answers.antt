@@ -1,6 +1,6 @@
 -- `read_message` goes by the first byte as the definition does: each way out is a law.
 use Prim.Native.Nat.{◌+◌, ◌≤◌, ◌<◌}
-use mathlib.Core.Logic.{inl, inr, ⊎_elim}
+use mathlib.Core.Logic.{inr, ⊎_elim}
 use native.Mathlib.Omega.{arith}
 use lib.ListN.{length}
 use Rattle.file_events.proofs.Laws.{there, under_none, under_status, by_status, by_meta, by_system, by_none, from_status}
@@ -41,11 +41,6 @@ system_message-requires c =
     let here : (c.byte_at-s.result < 256 → let args = c.args in args.at + 1 ≤ length args.bytes.now) = λ h. let args = c.args in omega (arith, there args.bytes.now args.at (omega (arith, c.byte_at-s.ensures))) in
     here (omega arith)
 
-pub returns-then-s-eq240 : goal.returns-then-s-eq240
-returns-then-s-eq240 c =
-    rw (by_system _ _ _ _ c.byte_at-s.ensures c.if-s-lt128.false c.if-s-lt240.false (inl (omega (arith, c.if-s-eq240.true))))
-    (from_status _ _ _ _ c.system_message.ensures)
-
 pub system_message-requires-then-s-eq247 : goal.system_message-requires-then-s-eq247
 system_message-requires-then-s-eq247 c =
     let here : (c.byte_at-s.result < 256 → let args = c.args in args.at + 1 ≤ length args.bytes.now) = λ h. let args = c.args in omega (arith, there args.bytes.now args.at (omega (arith, c.byte_at-s.ensures))) in
@@ -57,6 +52,4 @@ returns-then-s-eq247 c =
     (from_status _ _ _ _ c.system_message-then-s-eq247.ensures)
 
 pub returns : goal.returns
-returns c =
-    by_none _ _ _ _ c.byte_at-s.ensures c.if-s-lt128.false c.if-s-lt240.false c.if-s-eq255.false
-    (λ e. omega (arith, e, c.if-s-eq240.false)) c.if-s-eq247.false
+returns c = by_none _ _ _ _ c.byte_at-s.ensures c.if-s-lt128.false c.if-s-lt240.false c.if-s-eq255.false (λ e. omega arith) (λ e. omega arith)

@@ -1,6 +1,6 @@
 use Prim.Native.Nat.{◌<◌, ◌^◌}
 use native.Mathlib.Omega.{arith}
-use Rattle.file_events.proofs.Laws.{partly_none, partly_small, partly_past, partly_long, partly_last, partly_more}
+use Rattle.file_events.proofs.Laws.{partly_none, partly_small, partly_past, partly_long, partly_more}
 use Rattle.file_events.proofs.read_number.Goals as goal
 
 pub loop-k-init : goal.loop-k-init
@@ -18,11 +18,6 @@ pub overflow_add-result : goal.overflow_add-result
 overflow_add-result c =
     let small : (c.loop-k.value < 128 ^ 3) = partly_small _ _ _ _ _ c.loop-k.invariant (omega arith) in
     omega (arith, small)
-
-pub returns-then-b-lt128 : goal.returns-then-b-lt128
-returns-then-b-lt128 c =
-    let b = c.wide-b.ensures in
-    rw b (partly_last _ _ _ _ _ c.loop-k.invariant (omega (arith, c.loop-k-test.true)) c.if-bytes-i.false (omega arith))
 
 pub overflow_mul-value : goal.overflow_mul-value
 overflow_mul-value c =
