@@ -1,21 +1,24 @@
 // Prints the page of a MIDI file, read from standard input.
 //
 // It holds files of 1,000,000 bytes; the bytes of a larger one are counted. Its other arrays hold the piece of every file that is read.
+#![tactic(auto)]
+
 ghost use Rattle.std.specs.Prelude.{◌≤◌, ◌≡◌, length};
 ghost use Rattle.page_openings.specs.Places.{Within};
 ghost use Rattle.print_file.specs.Input.{Counted, FileOpened};
 
 use basics::MOST_BYTES;
-use libc::STDIN_FILENO;
 use page_openings::Opened;
+
+// Standard input.
+const STDIN: i32 = 0;
 
 // How many bytes one more read gives, none of which is held; 0 at the end.
 fn pass_over() -> usize
     ensures { result ≤ 65536 }
 {
     let mut buf = io::large_buffer();
-    let got = libc::read(STDIN_FILENO, &mut buf);
-    io::count(got, &buf)
+    io::read_full(STDIN, &mut buf)
 }
 
 // How many bytes there are behind those read, with them: counted until there are more than a file may have.
@@ -58,7 +61,7 @@ fn open_held(
     ensures opened { FileOpened (record { items = 60000; work = 244096 })
         sizes.new deltas.new words.new starts.new marks.new result }
 {
-    let n = io::read_full(STDIN_FILENO, file);
+    let n = io::read_full(STDIN, file);
     let all = total(n, file.len());
     page_openings::open_file(
         &file[..n],
