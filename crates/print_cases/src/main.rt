@@ -1,5 +1,9 @@
 // Prints the pieces of a list of texts, a point behind each: text that is a piece, also with other blanks and line ends,
 // text that is none, and pieces with a refusal.
+#![tactic(auto)]
+
+// Standard output.
+const STDOUT: i32 = 1;
 
 // Prints each text.
 fn print_texts(list: &[u8]) {
@@ -7,7 +11,7 @@ fn print_texts(list: &[u8]) {
     while from < list.len() {
         let to = texts::end_of(list, from);
         printer::print_text(&list[from..to]);
-        io::write_all(libc::STDOUT_FILENO, b".\n");
+        io::write_all(STDOUT, b".\n");
         if to == list.len() {
             return;
         }
