@@ -15,7 +15,7 @@ struct Turn {
     more: bool,
 }
 
-// Reads once.
+// Reads until a buffer is full, or to the end.
 fn read_some(reader: Reader, sizes: &mut [u32], deltas: &mut [u32], words: &mut [u32]) -> Turn
     requires { SoFar reader sizes.old deltas.old words.old }
     ensures { SoFar result.reader sizes.new deltas.new words.new }

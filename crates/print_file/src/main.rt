@@ -13,7 +13,7 @@ use page_openings::Opened;
 // Standard input.
 const STDIN: i32 = 0;
 
-// How many bytes one more read gives, none of which is held; 0 at the end.
+// How many bytes one more buffer takes, none of which is held; 0 at the end.
 fn pass_over() -> usize
     ensures { result ≤ 65536 }
 {
