@@ -40,7 +40,7 @@ def text(path):
 def crate_lines():
     """crates.txt: each crate with the crates that it uses."""
     lines = (line for line in text(ROOT / "crates.txt").splitlines() if line and not line.startswith("#"))
-    return {name: rest.split() for name, _, rest in (line.partition(":") for line in lines)}
+    return {name.split()[0]: rest.split() for name, _, rest in (line.partition(":") for line in lines)}
 
 
 # A declaration of a .antt file: `abbrev pub name : ..`, `pub record Name (..) ..`, in a module too.
