@@ -24,7 +24,7 @@ abbrev pub header_read : headers.HeaderRead → Option place.Header
 header_read headers.TheVariants.Broken = none
 header_read (headers.TheVariants.Read k) = some k
 
--- countFits, by what the program knows
+-- count_fits, by what the program knows
 abbrev pub count_fits_header : place.Header → ℕ → Bool
 count_fits_header k n = eqb n k.count && (not (eqb k.format 0) || eqb n 1)
 
