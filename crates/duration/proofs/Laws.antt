@@ -94,13 +94,13 @@ same_code d code e = go (ltb 9 code) e
     go true e = cc
     go false e = cc
 
-pub out_of_range : (code dots : ℕ) → refused 10 ≡ coded_call code → Exactly (beats_call code dots) (refused 10)
+pub out_of_range : (r code dots : ℕ) → refused r ≡ coded_call code → Exactly (beats_call code dots) (refused r)
 unfolding unless
-out_of_range code dots e = go (ltb 9 code) e
+out_of_range r code dots e = go (ltb 9 code) e
   where
-    go : (b : Bool) → refused 10 ≡ cond b (refused 10) (given code)
-        → Exactly (cond b (refused 10) (unless (bad_dots dots ∷ []) (beats256 code dots))) (refused 10)
-    go true e = refl
+    go : (b : Bool) → refused r ≡ cond b (refused 10) (given code)
+        → Exactly (cond b (refused 10) (unless (bad_dots dots ∷ []) (beats256 code dots))) (refused r)
+    go true e = cc
     go false e = absurd (let z : ◌≡◌ {A = ℕ} 0 1 = cc in omega arith)
 
 -- ---- ticks

@@ -5,82 +5,64 @@ ghost use Rattle.std.specs.Prelude.{◌≡◌, ◌*◌, ◌^◌, ◌<◌};
 ghost use Rattle.duration.specs.Calls.{code_of, fraction_of, coded_answer, coded_call, ticks_answer, ticks_call, measured_answer, Exactly};
 ghost use Rattle.rules.specs.Calls.{beats_call};
 
+use basics::Refusal;
+
 const MOST_DOTS: u32 = 3;
 
-// A power-of-two fraction of a whole note.
-#[derive(Clone, Copy)]
+// A power-of-two fraction of a whole note, with its code.
+#[derive(Clone, Copy, Debug, PartialEq, Eq)]
 pub enum Duration {
-    Longa,
-    Breve,
-    Whole,
-    Half,
-    Quarter,
-    Eighth,
-    Sixteenth,
-    ThirtySecond,
-    SixtyFourth,
-    HundredTwentyEighth,
+    Longa = 0,
+    Breve = 1,
+    Whole = 2,
+    Half = 3,
+    Quarter = 4,
+    Eighth = 5,
+    Sixteenth = 6,
+    ThirtySecond = 7,
+    SixtyFourth = 8,
+    HundredTwentyEighth = 9,
 }
 
-#[derive(Clone, Copy)]
+#[derive(Clone, Copy, Debug, PartialEq, Eq)]
 pub struct Fraction {
     pub num: u32,
     pub den: u32,
 }
 
-// What the calls answer; OutOfRange is number 10.
-#[derive(Clone, Copy)]
-pub enum Coded {
-    Value(Duration),
-    OutOfRange,
-}
+impl TryFrom<u32> for Duration {
+    type Error = Refusal;
 
-#[derive(Clone, Copy)]
-pub enum Ticks {
-    Of(u32),
-    OutOfRange,
-}
+    ghost try_from_gives = { λ code answer. coded_answer answer ≡ coded_call code };
 
-#[derive(Clone, Copy)]
-pub enum Measured {
-    Length(f64),
-    OutOfRange,
+    fn try_from(code: u32) -> Result<Self, Refusal> {
+        Duration::from_code(code)
+    }
 }
 
 impl Duration {
-    pub fn from_code(code: u32) -> Coded
+    pub fn from_code(code: u32) -> Result<Duration, Refusal>
         ensures { coded_answer result ≡ coded_call code }
     {
         match code {
-            0 => Coded::Value(Duration::Longa),
-            1 => Coded::Value(Duration::Breve),
-            2 => Coded::Value(Duration::Whole),
-            3 => Coded::Value(Duration::Half),
-            4 => Coded::Value(Duration::Quarter),
-            5 => Coded::Value(Duration::Eighth),
-            6 => Coded::Value(Duration::Sixteenth),
-            7 => Coded::Value(Duration::ThirtySecond),
-            8 => Coded::Value(Duration::SixtyFourth),
-            9 => Coded::Value(Duration::HundredTwentyEighth),
-            _ => Coded::OutOfRange,
+            0 => Ok(Duration::Longa),
+            1 => Ok(Duration::Breve),
+            2 => Ok(Duration::Whole),
+            3 => Ok(Duration::Half),
+            4 => Ok(Duration::Quarter),
+            5 => Ok(Duration::Eighth),
+            6 => Ok(Duration::Sixteenth),
+            7 => Ok(Duration::ThirtySecond),
+            8 => Ok(Duration::SixtyFourth),
+            9 => Ok(Duration::HundredTwentyEighth),
+            _ => Err(Refusal::OutOfRange),
         }
     }
 
     pub fn code(self) -> u32
         ensures { result ≡ code_of self }
     {
-        match self {
-            Duration::Longa => 0,
-            Duration::Breve => 1,
-            Duration::Whole => 2,
-            Duration::Half => 3,
-            Duration::Quarter => 4,
-            Duration::Eighth => 5,
-            Duration::Sixteenth => 6,
-            Duration::ThirtySecond => 7,
-            Duration::SixtyFourth => 8,
-            Duration::HundredTwentyEighth => 9,
-        }
+        self as u32
     }
 
     // Exactly, with a whole note as 1.
@@ -103,11 +85,11 @@ impl Duration {
     }
 
     // In ticks, 480 to a quarter. Each dot adds half, whole part, of what was added before it.
-    pub fn to_ticks(self, dots: u32) -> Ticks
+    pub fn to_ticks(self, dots: u32) -> Result<u32, Refusal>
         ensures { ticks_answer result ≡ ticks_call (code_of self) dots }
     {
         if dots > MOST_DOTS {
-            return Ticks::OutOfRange;
+            return Err(Refusal::OutOfRange);
         }
         let f = self.as_fraction();
         let base = 4 * 480 * f.num / f.den;
@@ -117,15 +99,15 @@ impl Duration {
             ticks += dot;
             dot /= 2;
         }
-        Ticks::Of(ticks)
+        Ok(ticks)
     }
 
     // In beats, a quarter as 1.0: summed dot by dot, and exact.
-    pub fn beats(self, dots: u32) -> Measured
+    pub fn beats(self, dots: u32) -> Result<f64, Refusal>
         ensures { Exactly (beats_call (code_of self) dots) (measured_answer result) }
     {
         if dots > MOST_DOTS {
-            return Measured::OutOfRange;
+            return Err(Refusal::OutOfRange);
         }
         let f = self.as_fraction();
         let base = 4.0 * f.num as f64 / f.den as f64;
@@ -135,16 +117,13 @@ impl Duration {
             total += dot;
             dot /= 2.0;
         }
-        Measured::Length(total)
+        Ok(total)
     }
 }
 
 // The beats of a code.
-pub fn beats_of(code: u32, dots: u32) -> Measured
+pub fn beats_of(code: u32, dots: u32) -> Result<f64, Refusal>
     ensures { Exactly (beats_call code dots) (measured_answer result) }
 {
-    match Duration::from_code(code) {
-        Coded::Value(d) => d.beats(dots),
-        Coded::OutOfRange => Measured::OutOfRange,
-    }
+    Duration::from_code(code)?.beats(dots)
 }

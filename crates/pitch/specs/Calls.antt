@@ -1,13 +1,14 @@
 -- What the calls answer, in the words of rules. OutOfRange is document 01's number 10: a key above 127.
 use Rattle.std.specs.Prelude.{ℕ, Bool, [], ◌∷◌, ℤ}
-use Rattle.rules.specs.Refusals.{Result, refused, given, unless, bad_key}
+use Rattle.std.specs.Prelude as std
+use Rattle.basics.specs.declared.Refusal.{Refusal}
+use Rattle.basics.specs.Refusals.{told_by}
+use Rattle.rules.specs.Refusals.{Result, unless, bad_key}
 use Rattle.rules.specs.Spelling as rules
 use Rattle.rules.specs.Spelling.{Spelling, spelled_either}
 use Rattle.pitch.specs.declared.Step as step
 use Rattle.pitch.specs.declared.Pitch.{Pitch}
 use Rattle.pitch.specs.declared.Name.{Name}
-use Rattle.pitch.specs.declared.Spelled.{Spelled}
-use Rattle.pitch.specs.declared.Spelled.TheVariants.{As, OutOfRange}
 
 abbrev pub step_of : step.Step → rules.Step
 step_of step.TheVariants.C = rules.C
@@ -27,9 +28,8 @@ spelling_of p = record { step = step_of p.step; octave = p.octave; alter = p.alt
 abbrev pub pitch_of : step.Step → ℤ → ℤ → Pitch
 pitch_of s o a = record { step = s; octave = o; alter = a }
 
-abbrev pub spelled_answer : Spelled → Result Spelling
-spelled_answer (As p) = given (spelling_of p)
-spelled_answer OutOfRange = refused 10
+abbrev pub spelled_answer : std.Result Pitch Refusal → Result Spelling
+spelled_answer = told_by spelling_of
 
 abbrev pub either_call : ℕ → Bool → Result Spelling
 either_call key prefer_flat = unless (bad_key key ∷ []) (spelled_either key prefer_flat)

@@ -6,7 +6,9 @@ ghost use Rattle.rules.specs.Spelling.{semitone, sounds, C, natural, sharp_names
 ghost use Rattle.pitch.specs.Calls.{step_of, name_of, spelling_of, pitch_of, spelled_answer, either_call};
 ghost use Rattle.rules.specs.Calls.{spelling_call};
 
-#[derive(Clone, Copy)]
+use basics::Refusal;
+
+#[derive(Clone, Copy, Debug, PartialEq, Eq)]
 pub enum Step {
     C,
     D,
@@ -17,18 +19,11 @@ pub enum Step {
     B,
 }
 
-#[derive(Clone, Copy)]
+#[derive(Clone, Copy, Debug, PartialEq, Eq)]
 pub struct Pitch {
     pub step: Step,
     pub octave: i8,
     pub alter: i8,
-}
-
-// A key's spelling; OutOfRange is number 10.
-#[derive(Clone, Copy)]
-pub enum Spelled {
-    As(Pitch),
-    OutOfRange,
 }
 
 // A name within the octave: its step and its alteration.
@@ -84,11 +79,11 @@ impl Pitch {
     }
 
     // A key's spelling, with flats or with sharps.
-    pub fn from_midi(key: u32, prefer_flat: bool) -> Spelled
+    pub fn from_midi(key: u32, prefer_flat: bool) -> Result<Pitch, Refusal>
         ensures { spelled_answer result ≡ either_call key prefer_flat }
     {
         if key > 127 {
-            return Spelled::OutOfRange;
+            return Err(Refusal::OutOfRange);
         }
         let octave = (key / 12) as i8 - 1;
         let pc = key % 12;
@@ -97,8 +92,8 @@ impl Pitch {
         } else {
             sharp_name(pc)
         };
-        let step = name.0;
-        Spelled::As(Pitch::with_alter(step, octave, name.1))
+        let Name(step, alter) = name;
+        Ok(Pitch::with_alter(step, octave, alter))
     }
 }
 
@@ -143,7 +138,7 @@ fn flat_name(pc: u32) -> Name
 }
 
 // With sharps, as the import spells.
-pub fn midi_to_pitch(key: u32) -> Spelled
+pub fn midi_to_pitch(key: u32) -> Result<Pitch, Refusal>
     ensures { spelled_answer result ≡ spelling_call key }
 {
     Pitch::from_midi(key, false)

@@ -1,16 +1,12 @@
 -- `beats_of` meets its contract: what `from_code` and `beats` ensure, joined by the code. Assumes nothing.
-use mathlib.Core.Path.{ap, ◌∙◌, sym}
-use Rattle.duration.specs.Calls.{coded_answer}
+use Rattle.std.proofs.lemmas.Result.{err_from_is_err_and}
 use Rattle.duration.proofs.Laws.{same_code, out_of_range}
 use Rattle.duration.proofs.beats_of.Goals as goal
 
-pub returns-in-Value : goal.returns-in-Value
-returns-in-Value c =
-    let e = same_code c.in-Value.d c.args.code (sym (ap coded_answer c.in-Value.is) ∙ c.from_code.ensures) in
-    rw e at c.beats.ensures
+pub returns-in_err-from_code : goal.returns-in_err-from_code
+returns-in_err-from_code c =
+    let p = err_from_is_err_and c.from_residual.result c.from_residual.ensures.1 in
+    rw (p.1, p.2) (out_of_range _ c.args.code c.args.dots (c.in_err-from_code.ensures))
 
-pub returns-in-OutOfRange : goal.returns-in-OutOfRange
-returns-in-OutOfRange c =
-    let e = c.from_code.ensures in
-    let t = c.in-OutOfRange.is in
-    out_of_range c.args.code c.args.dots (sym (ap coded_answer t) ∙ e)
+pub returns : goal.returns
+returns c = rw (same_code _ c.args.code (c.in_ok-from_code.ensures)) at c.beats.ensures
