@@ -1,13 +1,14 @@
 // Numbers 1 to 5: whether a piece, as its three arrays sizes, deltas and words, is admitted.
 #![tactic(auto)]
 
-ghost use Rattle.std.specs.Prelude.{◌+◌, ◌-◌, ◌≤◌, true, ◌≡◌, length};
+ghost use Rattle.std.specs.Prelude.{◌+◌, ◌-◌, ◌≤◌, true, false, ◌≡◌, length};
 ghost use Rattle.rules.specs.Lists.{sum};
 ghost use Rattle.rules.specs.Piece.{piece, sizes_agree, well_formed};
 ghost use Rattle.rules.specs.Refusals.{first_number, piece_refusals, event_refusals, most_events, largest_delta};
+ghost use Rattle.basics.specs.Refusals.{number_of};
 ghost use Rattle.admission.specs.Bad.{bad, FirstBad, HasMasks, AllFormed, AllSmall};
 
-use basics::{LARGEST_DELTA, LARGEST_SIZE, MOST_EVENTS, size, wide};
+use basics::{LARGEST_DELTA, LARGEST_SIZE, MOST_EVENTS, Refusal};
 use track_events::{block_end, well_formed};
 
 // The sum of event counts or deltas.
@@ -16,10 +17,8 @@ pub fn total(counts: &[u32]) -> u64
     ensures { result ≡ sum counts.now }
 {
     let mut n: u64 = 0;
-    let mut i = 0;
-    while i < counts.len() {
-        n += wide(counts[i]);
-        i += 1;
+    for count in counts {
+        n += u64::from(*count);
     }
     n
 }
@@ -34,7 +33,7 @@ fn sizes_agree(sizes: &[u32], deltas: &[u32], words: &[u32]) -> bool
     if LARGEST_SIZE < sizes[1] {
         return false;
     }
-    if sizes.len() != 2 + size(sizes[1]) {
+    if sizes.len() != 2 + sizes[1] as usize {
         return false;
     }
     if LARGEST_SIZE < sizes[0] {
@@ -50,18 +49,16 @@ fn sizes_agree(sizes: &[u32], deltas: &[u32], words: &[u32]) -> bool
     true
 }
 
-// 0 only where no delta of a block is too large. No branch, so that several are looked at together.
-fn bad_deltas(deltas: &[u32], from: usize, to: usize) -> u32
+// False only where no delta of a block is too large. No branch, so that several are looked at together.
+fn bad_deltas(deltas: &[u32], from: usize, to: usize) -> bool
     requires { (from ≤ to) × (to ≤ length deltas.now) }
-    ensures { result ≡ 0 → AllSmall deltas.now from to }
+    ensures { result ≡ false → AllSmall deltas.now from to }
 {
     let mut all: u32 = 0;
-    let mut i = from;
-    while i < to {
+    for i in from..to {
         all |= deltas[i];
-        i += 1;
     }
-    all / 268435456
+    LARGEST_DELTA < all
 }
 
 // 0 only for a plain word: a note off, note on, key pressure or controller that is well formed. Of the upper six bits of the kind just
@@ -72,18 +69,16 @@ fn not_plain(word: u32) -> u32
     word & 0xFCF0_8080 ^ 0x0800_0000
 }
 
-// 0 only where all words of a block are plain, as most are.
-fn not_plain_words(words: &[u32], from: usize, to: usize) -> u32
+// False only where all words of a block are plain, as most are.
+fn not_plain_words(words: &[u32], from: usize, to: usize) -> bool
     requires { (from ≤ to) × (to ≤ length words.now) }
-    ensures { result ≡ 0 → AllFormed words.now from to }
+    ensures { result ≡ false → AllFormed words.now from to }
 {
     let mut all: u32 = 0;
-    let mut i = from;
-    while i < to {
+    for i in from..to {
         all |= not_plain(words[i]);
-        i += 1;
     }
-    all
+    all != 0
 }
 
 // The bits that a word must not have, by its kind.
@@ -111,10 +106,8 @@ fn forbidden_bits() -> [u32; 256]
 {
     let kinds = FORBIDDEN;
     let mut table = [0xFFFF_FFFFu32; 256];
-    let mut k: usize = 0;
-    while k < 15 {
+    for k in 0..15 {
         table[k] = kinds[k];
-        k += 1;
     }
     table
 }
@@ -127,84 +120,84 @@ fn forbidden_in(table: &[u32; 256], word: u32) -> u32
     word & table[(word / 16777216) as usize]
 }
 
-// 0 only where all words of a block are well formed, whatever their kinds.
-fn bad_words(table: &[u32; 256], words: &[u32], from: usize, to: usize) -> u32
+// False only where all words of a block are well formed, whatever their kinds.
+fn bad_words(table: &[u32; 256], words: &[u32], from: usize, to: usize) -> bool
     requires { HasMasks table.now × (from ≤ to) × (to ≤ length words.now) }
-    ensures { result ≡ 0 → AllFormed words.now from to }
+    ensures { result ≡ false → AllFormed words.now from to }
 {
     let mut bad: u32 = 0;
-    let mut i = from;
-    while i < to {
+    for i in from..to {
         bad |= forbidden_in(table, words[i]);
-        i += 1;
     }
-    bad
+    bad != 0
 }
 
-// 4 or 5 for the first bad event of a block; 0 where there is none.
-fn bad_event(deltas: &[u32], words: &[u32], from: usize, to: usize) -> u32
+// What the first bad event of a block is refused for.
+fn bad_event(deltas: &[u32], words: &[u32], from: usize, to: usize) -> Result<(), Refusal>
     requires { (length words.now ≡ length deltas.now) × (from ≤ to) × (to ≤ length deltas.now) }
-    ensures { FirstBad deltas.now words.now from to result }
+    ensures { FirstBad deltas.now words.now from to (number_of result) }
 {
-    let mut i = from;
-    while i < to {
+    for i in from..to {
         if LARGEST_DELTA < deltas[i] {
-            return 4;
+            return Err(Refusal::LargeDelta);
         }
         if !well_formed(words[i]) {
-            return 5;
+            return Err(Refusal::BadWord);
         }
-        i += 1;
     }
-    0
+    Ok(())
 }
 
 // The same, soon where all are plain, and soon enough where all are good.
-fn bad_in_block(table: &[u32; 256], deltas: &[u32], words: &[u32], from: usize, to: usize) -> u32
+fn bad_in_block(
+    table: &[u32; 256],
+    deltas: &[u32],
+    words: &[u32],
+    from: usize,
+    to: usize,
+) -> Result<(), Refusal>
     requires { HasMasks table.now × (length words.now ≡ length deltas.now) × (from ≤ to) × (to ≤ length deltas.now) }
-    ensures { FirstBad deltas.now words.now from to result }
+    ensures { FirstBad deltas.now words.now from to (number_of result) }
 {
-    if bad_deltas(deltas, from, to) == 0 {
-        if not_plain_words(words, from, to) == 0 {
-            return 0;
+    if !bad_deltas(deltas, from, to) {
+        if !not_plain_words(words, from, to) {
+            return Ok(());
         }
-        if bad_words(table, words, from, to) == 0 {
-            return 0;
+        if !bad_words(table, words, from, to) {
+            return Ok(());
         }
     }
     bad_event(deltas, words, from, to)
 }
 
-// 4 or 5 for the first bad event, a delta that is too large or a bad word; 0 where there is none.
-fn first_bad_event(deltas: &[u32], words: &[u32]) -> u32
+// What the first bad event is refused for, a delta that is too large or a bad word.
+fn first_bad_event(deltas: &[u32], words: &[u32]) -> Result<(), Refusal>
     requires { length words.now ≡ length deltas.now }
-    ensures { result ≡ first_number (event_refusals deltas.now words.now) }
+    ensures { number_of result ≡ first_number (event_refusals deltas.now words.now) }
 {
     let table = forbidden_bits();
     let mut i = 0;
+    // Kept: blocks are walked, not events; the next one begins where block_end ends this one.
     while i < deltas.len() {
         let to = block_end(i, deltas.len());
-        let number = bad_in_block(&table, deltas, words, i, to);
-        if number != 0 {
-            return number;
-        }
+        bad_in_block(&table, deltas, words, i, to)?;
         i = to;
     }
-    0
+    Ok(())
 }
 
-// The number that refuses the piece, 1 to 5; 0 for a piece that is admitted.
-pub fn admission(sizes: &[u32], deltas: &[u32], words: &[u32]) -> u32
-    ensures { result ≡ first_number (piece_refusals (piece sizes.now deltas.now words.now)) }
+// Admits a piece, or tells which of 1 to 5 refuses it.
+pub fn admission(sizes: &[u32], deltas: &[u32], words: &[u32]) -> Result<(), Refusal>
+    ensures { number_of result ≡ first_number (piece_refusals (piece sizes.now deltas.now words.now)) }
 {
     if !sizes_agree(sizes, deltas, words) {
-        return 1;
+        return Err(Refusal::SizesDisagree);
     }
     if sizes[0] == 0 {
-        return 2;
+        return Err(Refusal::DivisionZero);
     }
     if MOST_EVENTS < deltas.len() {
-        return 3;
+        return Err(Refusal::TooManyEvents);
     }
     first_bad_event(deltas, words)
 }

@@ -6,7 +6,7 @@ use Rattle.admission.proofs.Numbers.{bad_delta, bad_word, bad_later}
 use Rattle.admission.proofs.bad_event.Goals as goal
 
 pub loop-i-init : goal.loop-i-init
-loop-i-init c = (omega arith, omega (arith, c.requires.1), refl)
+loop-i-init c = refl
 
 pub offset_bounds-deltas-i : goal.offset_bounds-deltas-i
 offset_bounds-deltas-i c = omega (arith, c.requires.2)
@@ -23,7 +23,7 @@ returns-then-deltas-i-gt-LARGEST_DELTA c =
     let k : i < length ws = omega (arith, c.requires.0, h) in
     record {
       none = λ z. absurd (omega (arith, z));
-      some = λ z. sym (c.loop-i.invariant.2 ∙ bad_delta ds ws i h k c.if-deltas-i-gt-LARGEST_DELTA.true);
+      some = λ z. sym (c.loop-i.invariant ∙ bad_delta ds ws i h k c.if-deltas-i-gt-LARGEST_DELTA.true);
     }
 
 pub offset_bounds-words-i : goal.offset_bounds-words-i
@@ -43,7 +43,7 @@ returns-then-not-well_formed c =
     let ill = sym c.well_formed-in-loop-i.ensures ∙ c.if-not-well_formed.true in
     record {
       none = λ z. absurd (omega (arith, z));
-      some = λ z. sym (c.loop-i.invariant.2 ∙ bad_word ds ws i h k c.if-deltas-i-gt-LARGEST_DELTA.false ill);
+      some = λ z. sym (c.loop-i.invariant ∙ bad_word ds ws i h k c.if-deltas-i-gt-LARGEST_DELTA.false ill);
     }
 
 pub loop-i-preserved : goal.loop-i-preserved
@@ -54,10 +54,10 @@ loop-i-preserved c =
     let h : i < length ds = omega (arith, c.requires.2) in
     let k : i < length ws = omega (arith, c.requires.0, h) in
     let well = sym c.well_formed-in-loop-i.ensures ∙ c.if-not-well_formed.false in
-    (omega (arith, c.loop-i.invariant.0), omega arith, c.loop-i.invariant.2 ∙ bad_later ds ws i h k c.if-deltas-i-gt-LARGEST_DELTA.false well)
+    c.loop-i.invariant ∙ bad_later ds ws i h k c.if-deltas-i-gt-LARGEST_DELTA.false well
 
 pub returns : goal.returns
 returns c =
     let here = c.loop-i in
-    let done : here.i ≡ c.args.to = omega (arith, here.invariant.1) in
-    record { none = λ z. rw done at here.invariant.2; some = λ z. absurd (z refl) }
+    let done : here.i ≡ c.args.to = omega (arith, c.requires) in
+    record { none = λ z. rw done at here.invariant; some = λ z. absurd (z refl) }

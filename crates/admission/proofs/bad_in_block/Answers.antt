@@ -9,19 +9,19 @@ bad_deltas-requires c = let p = c.requires in (p.2, p.3)
 pub not_plain_words-requires : goal.not_plain_words-requires
 not_plain_words-requires c = let p = c.requires in (p.2, omega (arith, p.1, p.3))
 
-pub returns-then-not_plain_words-eq0 : goal.returns-then-not_plain_words-eq0
-returns-then-not_plain_words-eq0 c =
-    let small = c.bad_deltas.ensures c.if-bad_deltas-eq0.true in
-    let formed = c.not_plain_words.ensures c.if-not_plain_words-eq0.true in
+pub returns-then-not-not_plain_words : goal.returns-then-not-not_plain_words
+returns-then-not-not_plain_words c =
+    let small = c.bad_deltas.ensures c.if-not-bad_deltas.true in
+    let formed = c.not_plain_words.ensures c.if-not-not_plain_words.true in
     none_bad _ _ _ _ c.requires.1 c.requires.3 small formed c.requires.2
 
 pub bad_words-requires : goal.bad_words-requires
 bad_words-requires c = let p = c.requires in (p.0, p.2, omega (arith, p.1, p.3))
 
-pub returns-then-bad_words-eq0 : goal.returns-then-bad_words-eq0
-returns-then-bad_words-eq0 c =
-    let small = c.bad_deltas.ensures c.if-bad_deltas-eq0.true in
-    let formed = c.bad_words.ensures c.if-bad_words-eq0.true in
+pub returns-then-not-bad_words : goal.returns-then-not-bad_words
+returns-then-not-bad_words c =
+    let small = c.bad_deltas.ensures c.if-not-bad_deltas.true in
+    let formed = c.bad_words.ensures c.if-not-bad_words.true in
     none_bad _ _ _ _ c.requires.1 c.requires.3 small formed c.requires.2
 
 pub bad_event-requires : goal.bad_event-requires

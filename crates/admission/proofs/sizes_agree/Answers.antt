@@ -18,10 +18,10 @@ returns-then-sizes-gt-LARGEST_SIZE c =
     let x = c.args in
     sym (disagrees (piece x.sizes.now x.deltas.now x.words.now) (λ a. omega (arith, a.tracks)))
 
-pub returns-then-sizes-size : goal.returns-then-sizes-size
-returns-then-sizes-size c =
+pub returns-then-sizes : goal.returns-then-sizes
+returns-then-sizes c =
     let x = c.args in
-    sym (disagrees (piece x.sizes.now x.deltas.now x.words.now) (λ a. omega (arith, a.sizes, c.size.ensures)))
+    sym (disagrees (piece x.sizes.now x.deltas.now x.words.now) (λ a. omega (arith, a.sizes)))
 
 pub returns-then-sizes-gt-LARGEST_SIZE-2 : goal.returns-then-sizes-gt-LARGEST_SIZE-2
 returns-then-sizes-gt-LARGEST_SIZE-2 c =
@@ -46,7 +46,7 @@ returns c =
     let total : c.total-events.result ≡ sum (drop 2 x.sizes.now) = c.total-events.ensures ∙ ap sum (take_rest 2 x.sizes.now) in
     sym
     (agrees (piece x.sizes.now x.deltas.now x.words.now) (record {
-      sizes = omega (arith, c.size.ensures);
+      sizes = omega arith;
       deltas = omega arith;
       words = omega arith;
       tracks = omega arith;
