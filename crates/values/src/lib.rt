@@ -31,11 +31,9 @@ pub fn note_values(p: u64) -> [u64; 18]
     ensures { result ≡ table_of p }
 {
     let mut values = [0u64; 18];
-    let mut code: usize = 0;
-    while code < 9 {
+    for code in 0..9 {
         values[2 * code] = whole_ticks(p, code as u64, 1);
         values[2 * code + 1] = whole_ticks(p, code as u64, 0);
-        code += 1;
     }
     values
 }
@@ -69,8 +67,7 @@ pub fn count_pieces(values: &[u64; 18], ticks: u64) -> Count
 {
     let mut pieces: u64 = 0;
     let mut left = ticks;
-    let mut i: usize = first_entry(values, ticks);
-    while i < 18 {
+    for i in first_entry(values, ticks)..18 {
         if left == 0 {
             return Count { pieces, left };
         }
@@ -79,7 +76,6 @@ pub fn count_pieces(values: &[u64; 18], ticks: u64) -> Count
             pieces += left / length;
             left %= length;
         }
-        i += 1;
     }
     Count { pieces, left }
 }
@@ -115,6 +111,7 @@ pub fn split_span(values: &[u64; 18], ticks: u64, out: &mut [u32], from: usize, 
     let mut left = ticks;
     let mut at = from;
     let mut i: usize = first_entry(values, ticks);
+    // Kept: an entry that fits is taken again, so the turns are no range.
     while i < 18 {
         if left == 0 {
             return Split { at, left };
