@@ -1,14 +1,14 @@
 -- Texts put behind one another, and digits as decimals.
 use Prim.Native.Nat.{ℕ, zero, suc, ◌+◌, ◌-◌, ◌*◌, ◌/◌, ◌%◌, ◌^◌, ◌≤◌, ◌<◌}
 use mathlib.Core.Logic.{inl, inr}
-use mathlib.Core.List.{List, [], ◌∷◌, ◌++◌, append_assoc, append-nil}
+use mathlib.Core.List.{List, [], ◌∷◌, ◌++◌, append_assoc}
 use mathlib.Core.Path.{◌≡◌, ap, ◌∙◌}
 use native.Mathlib.Nat.{pow-suc, pow-le-pow_right, one-le-pow, mod-eq_of_lt}
 use native.Mathlib.Numerals.{add-one, unary_clauses}
 use native.Mathlib.Omega.{arith}
 use borrow.Author.Tests.{lt-ltb, le-ltb}
-use lib.ListN.{length, get_or, set, take}
-use lib.Seq.{take-suc, take-suc-set}
+use lib.ListN.{length, set, take}
+use lib.Seq.{take-suc-set}
 use Rattle.line_text.specs.Text.{decimal_in, decimal, Adds}
 use Rattle.io.specs.Digits.{last_digits, IsDigitCount}
 use Rattle.laws.proofs.Order.{by_le}
@@ -17,12 +17,6 @@ use Rattle.laws.proofs.Order.{by_le}
 
 pub adds_one : (b at : ℕ) (o : List ℕ) → at < length o → Adds 1 (b ∷ []) at o (at + 1) (set o at b)
 adds_one b at o h = record { text = rw (add-one, take-suc-set o at b h); grown = omega arith }
-
-pub text_more : (at i : ℕ) (t o xs : List ℕ) → i < length t → at + i < length o → take (at + i) o ≡ xs ++ take i t
-    → take (at + (i + 1)) (set o (at + i) (get_or t i 0)) ≡ xs ++ take (i + 1) t
-text_more at i t o xs h k e =
-    let n : at + (i + 1) ≡ suc (at + i) = omega arith in
-    rw (n, take-suc-set o (at + i) (get_or t i 0) k, e, add-one, take-suc t i 0 h, append_assoc)
 
 module _ {m n at a r : ℕ} {xs ys o p q : List ℕ} where
   -- one text behind another
@@ -33,11 +27,6 @@ module _ {m n at a r : ℕ} {xs ys o p q : List ℕ} where
 -- and so many at most
 pub adds_most : {m n at r : ℕ} {xs o q : List ℕ} → m ≤ n → Adds m xs at o r q → Adds n xs at o r q
 adds_most h f = record { text = f.text; grown = omega (arith, f.grown) }
-
-pub text_none : (at : ℕ) (o t : List ℕ) → take (at + 0) o ≡ take at o ++ take 0 t
-text_none at o t =
-    let e : at + 0 ≡ at = omega arith in
-    rw (e, append-nil)
 
 -- ---- decimals
 

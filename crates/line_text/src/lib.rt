@@ -18,12 +18,9 @@ pub fn put_text(out: &mut [u8], at: usize, text: &[u8]) -> usize
     requires { at + length text.now ≤ length out.old }
     ensures { Adds (length text.now) text.now at out.old result out.new }
 {
-    let mut i = 0;
-    while i < text.len() {
-        out[at + i] = text[i];
-        i += 1;
-    }
-    at + i
+    let end = at + text.len();
+    out[at..end].copy_from_slice(text);
+    end
 }
 
 // A number in decimal.
@@ -41,6 +38,6 @@ pub fn put_next(out: &mut [u8], at: usize, n: u64) -> usize
     requires { at + 21 ≤ length out.old }
     ensures { Adds 21 (32 ∷ Text·decimal n) at out.old result out.new }
 {
-    let a = put(out, at, 32);
+    let a = put(out, at, b' ');
     put_decimal(out, a, n)
 }
