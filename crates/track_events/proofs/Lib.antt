@@ -1,3 +1,4 @@
 pub mod Tracks
 pub mod WordTable
 pub mod Ranges
+pub mod KindNumbers

@@ -15,8 +15,7 @@ use Rattle.rules.specs.Lists.{All, sum}
 use Rattle.rules.specs.Piece.{Event, timed, kind_of, byte_a, byte_b, byte_c, well_formed, is_kind, is_on, is_off}
 use Rattle.rules.specs.Refusals.{largest_delta}
 use Rattle.laws.specs.Sort.{Rises}
-use Rattle.track_events.specs.declared.Word.{Word}
-use Rattle.track_events.specs.Track.{IsWord, Track, Channelled, events_of, stretch, left, tick_at}
+use Rattle.track_events.specs.Track.{Track, Channelled, events_of, stretch, left, tick_at}
 use Rattle.laws.proofs.Lists.{All-get, All-take, All-drop}
 use Rattle.laws.proofs.Loops.{sum_all, sum_take}
 use Rattle.laws.proofs.Order.{by_bool, by_or, by_eq}
@@ -113,15 +112,7 @@ pub formed_at : {ds ws : List ℕ} → Track ds ws → (i : ℕ) → i < length 
 formed_at {ws = ws} track i h = All-get _ ws i 0 track.formed (omega (arith, track.same))
 
 module _ (w : ℕ) (formed : well_formed w ≡ true) where
-  apart : Word
-  apart = record { kind = kind_of w; a = byte_a w; b = byte_b w; c = byte_c w }
-
-  is : IsWord w apart
-  unfolding apart
-  is = record { kind = refl; a = refl; b = refl; c = refl }
-
-  within : (a b c : ℕ) → well_formed w ≡ limits apart a b c → (byte_a w ≤ a) × (byte_b w ≤ b) × (byte_c w ≤ c)
-  unfolding apart
+  within : (a b c : ℕ) → well_formed w ≡ limits w a b c → (byte_a w ≤ a) × (byte_b w ≤ b) × (byte_c w ≤ c)
   within a b c e =
       let h = (and-eq-true_iff _ _).0 (sym e ∙ formed) in
       let g = (and-eq-true_iff _ _).0 h.0 in
@@ -129,14 +120,13 @@ module _ (w : ℕ) (formed : well_formed w ≡ true) where
 
   -- kinds 8 to 14
   pub channel_bounds : 8 ≤ kind_of w → kind_of w ≤ 14 → Channelled w
-  unfolding apart
   channel_bounds l h =
       elim (by_eq (kind_of w) 14) [
-        | inl k ↦ bounds (omega arith) (within 15 127 127 (note_word w apart is (inl k)))
+        | inl k ↦ bounds (omega arith) (within 15 127 127 (note_word w (inl k)))
         | inr k ↦
             elim (by_bool (leb 12 (kind_of w))) [
-              | inl k₁₂ ↦ bounds (omega arith) (within 15 127 0 (program_word w apart is (leb-true _ _ k₁₂) (omega arith)))
-              | inr k₁₂ ↦ bounds (omega arith) (within 15 127 127 (note_word w apart is (inr (l, leb-false _ _ k₁₂))))
+              | inl k₁₂ ↦ bounds (omega arith) (within 15 127 0 (program_word w (leb-true _ _ k₁₂) (omega arith)))
+              | inr k₁₂ ↦ bounds (omega arith) (within 15 127 127 (note_word w (inr (l, leb-false _ _ k₁₂))))
             ]
       ]
     where
@@ -152,9 +142,7 @@ module _ (w : ℕ) (formed : well_formed w ≡ true) where
       (by_or (is_kind 8 w) (is_kind 9 w && eqb (byte_c w) 0) h)
 
   pub meter_bounds : kind_of w ≡ 3 → byte_b w ≤ 7
-  unfolding apart
-  meter_bounds k = (within 255 7 0 (meter_word w apart is k)).1
+  meter_bounds k = (within 255 7 0 (meter_word w k)).1
 
   pub key_bounds : kind_of w ≡ 4 → byte_b w ≤ 1
-  unfolding apart
-  key_bounds k = (within 255 1 0 (key_word w apart is k)).1
+  key_bounds k = (within 255 1 0 (key_word w k)).1

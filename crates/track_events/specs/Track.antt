@@ -4,10 +4,11 @@ use Rattle.rules.specs.Lists.{All, sum}
 use Rattle.rules.specs.Piece.{Event, timed, kind_of, byte_a, byte_b, byte_c, well_formed}
 use Rattle.rules.specs.Refusals.{most_events, largest_delta}
 use Rattle.track_events.specs.declared.Word.{Word}
+use Rattle.track_events.specs.Kinds.{IsKind}
 
 -- r is the word w taken apart
 pub record IsWord (w : ℕ) (r : Word) : Type 0 where
-  pub kind : r.kind ≡ kind_of w
+  pub kind : IsKind (kind_of w) r.kind
   pub a : r.a ≡ byte_a w
   pub b : r.b ≡ byte_b w
   pub c : r.c ≡ byte_c w

@@ -3,12 +3,35 @@
 
 ghost use Rattle.std.specs.Prelude.{◌≡◌, ◌&&◌, leb, length, ◌+◌, ◌≤◌, ◌<◌};
 ghost use Rattle.rules.specs.Piece.{kind_of, byte_a, byte_b, well_formed, is_on, is_off, tempo_value};
+ghost use Rattle.track_events.specs.Kinds.{IsKind};
 ghost use Rattle.track_events.specs.Track.{IsWord, stretch};
 
-// A word's four bytes, from the top.
+// What an event says, by the number in its word's top byte.
+#[derive(Clone, Copy, Debug, PartialEq, Eq)]
+pub enum Kind {
+    // A meta event that the rules do not read.
+    Meta = 0,
+    // A system event.
+    System = 1,
+    Tempo = 2,
+    Meter = 3,
+    Key = 4,
+    // A marker, or text of another sort.
+    Marker = 5,
+    EndOfTrack = 6,
+    NoteOff = 8,
+    NoteOn = 9,
+    KeyPressure = 10,
+    Controller = 11,
+    Program = 12,
+    ChannelPressure = 13,
+    Bend = 14,
+}
+
+// A word's four bytes, from the top: its kind, if it has one, and a, b and c.
 #[derive(Clone, Copy)]
 pub struct Word {
-    pub kind: u32,
+    pub kind: Option<Kind>,
     pub a: u32,
     pub b: u32,
     pub c: u32,
@@ -19,30 +42,46 @@ pub fn take_apart(w: u32) -> Word
     ensures { IsWord w result }
 {
     Word {
-        kind: w / 16777216,
-        a: w / 65536 % 256,
-        b: w / 256 % 256,
+        kind: kind_of(w),
+        a: byte_a(w),
+        b: byte_b(w),
         c: w % 256,
     }
 }
 
 // A word's kind, and its bytes a and b alone.
-pub fn kind_of(w: u32) -> u32
-    ensures { result ≡ kind_of w }
+pub fn kind_of(w: u32) -> Option<Kind>
+    ensures { IsKind (kind_of w) result }
 {
-    take_apart(w).kind
+    match w / 16777216 {
+        0 => Some(Kind::Meta),
+        1 => Some(Kind::System),
+        2 => Some(Kind::Tempo),
+        3 => Some(Kind::Meter),
+        4 => Some(Kind::Key),
+        5 => Some(Kind::Marker),
+        6 => Some(Kind::EndOfTrack),
+        8 => Some(Kind::NoteOff),
+        9 => Some(Kind::NoteOn),
+        10 => Some(Kind::KeyPressure),
+        11 => Some(Kind::Controller),
+        12 => Some(Kind::Program),
+        13 => Some(Kind::ChannelPressure),
+        14 => Some(Kind::Bend),
+        _ => None,
+    }
 }
 
 pub fn byte_a(w: u32) -> u32
     ensures { result ≡ byte_a w }
 {
-    take_apart(w).a
+    w / 65536 % 256
 }
 
 pub fn byte_b(w: u32) -> u32
     ensures { result ≡ byte_b w }
 {
-    take_apart(w).b
+    w / 256 % 256
 }
 
 // Whether a, b and c are at most these limits.
@@ -63,16 +102,19 @@ pub fn well_formed(w: u32) -> bool
     ensures { result ≡ well_formed w }
 {
     let x = take_apart(w);
-    let k = x.kind;
-    match k {
-        0 | 1 | 6 => within(x, 0, 0, 0),
-        2 => true,
-        3 => within(x, 255, 7, 0),
-        4 => within(x, 255, 1, 0),
-        5 => within(x, 255, 255, 0),
-        8 | 9 | 10 | 11 | 14 => within(x, 15, 127, 127),
-        12 | 13 => within(x, 15, 127, 0),
-        _ => false,
+    let Some(kind) = x.kind else {
+        return false;
+    };
+    match kind {
+        Kind::Meta | Kind::System | Kind::EndOfTrack => within(x, 0, 0, 0),
+        Kind::Tempo => true,
+        Kind::Meter => within(x, 255, 7, 0),
+        Kind::Key => within(x, 255, 1, 0),
+        Kind::Marker => within(x, 255, 255, 0),
+        Kind::NoteOff | Kind::NoteOn | Kind::KeyPressure | Kind::Controller | Kind::Bend => {
+            within(x, 15, 127, 127)
+        }
+        Kind::Program | Kind::ChannelPressure => within(x, 15, 127, 0),
     }
 }
 
@@ -80,16 +122,15 @@ pub fn well_formed(w: u32) -> bool
 pub fn is_on(w: u32) -> bool
     ensures { result ≡ is_on w }
 {
-    let x = take_apart(w);
-    x.kind == 9 && x.c != 0
+    w / 16777216 == Kind::NoteOn as u32 && w % 256 != 0
 }
 
 // Whether the word is a note-off, or a note-on with velocity 0.
 pub fn is_off(w: u32) -> bool
     ensures { result ≡ is_off w }
 {
-    let x = take_apart(w);
-    x.kind == 8 || x.kind == 9 && x.c == 0
+    let kind = w / 16777216;
+    kind == Kind::NoteOff as u32 || kind == Kind::NoteOn as u32 && w % 256 == 0
 }
 
 // The microseconds per quarter of a tempo's word.

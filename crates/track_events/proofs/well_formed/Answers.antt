@@ -1,51 +1,86 @@
 -- `well_formed` answers by the table of kinds: each arm has its row of the table, from WordTable.
+use mathlib.Core.Bool.{Bool, ◌&&◌}
 use mathlib.Core.Logic.{inl, inr}
-use mathlib.Core.Path.{sym, ◌∙◌}
-use borrow.Author.Rules.{rules}
-use Rattle.track_events.proofs.WordTable.{meta_word, tempo_word, meter_word, key_word, marker_word, note_word, program_word, no_word, high_word}
+use mathlib.Core.Path.{◌≡◌, sym, ap, subst, ◌∙◌}
 use native.Mathlib.Omega.{arith}
+use lib.Dec.{leb}
+use Rattle.std.specs.Prelude.{ℕ, Some}
+use Rattle.rules.specs.Piece.{kind_of, well_formed}
+use Rattle.track_events.specs.declared.Kind.{Kind}
+use Rattle.track_events.specs.declared.Kind.TheVariants.{Meta, System, EndOfTrack, NoteOff, NoteOn, KeyPressure, Controller, Program, ChannelPressure, Bend}
+use Rattle.track_events.specs.declared.Word.{Word}
+use Rattle.track_events.specs.Kinds.{kind_number, IsKind}
+use Rattle.track_events.specs.Track.{IsWord}
+use Rattle.track_events.proofs.KindNumbers.{kind_some}
+use Rattle.track_events.proofs.WordTable.{limits, meta_word, tempo_word, meter_word, key_word, marker_word, note_word, program_word, no_word}
 use Rattle.track_events.proofs.well_formed.Goals as goal
-use Rattle.track_events.proofs.well_formed.Goals.{in-14-1, in_default+else-k-lt2+else-k-lt8+then-k-lt12, in-6-1, in_default+then-k-lt2}
 
-pub returns-in-2 : goal.returns-in-2
-returns-in-2 c = tempo_word _ _ c.take_apart-x.ensures c.in-2.is
+module _ {w : ℕ} {x : Word} (is : IsWord w x) where
+  number : {k : Kind} (j : Kind) → x.kind ≡ Some k → k ≡ j → kind_of w ≡ kind_number j
+  number j e h = kind_some j is.kind (e ∙ ap Some h)
 
-pub returns-in-3 : goal.returns-in-3
-returns-in-3 c = c.within.ensures ∙ sym (meter_word _ _ c.take_apart-x.ensures c.in-3.is)
-
-pub returns-in-4 : goal.returns-in-4
-returns-in-4 c = c.within-in-4.ensures ∙ sym (key_word _ _ c.take_apart-x.ensures c.in-4.is)
-
-pub returns-in-5 : goal.returns-in-5
-returns-in-5 c = c.within-in-5.ensures ∙ sym (marker_word _ _ c.take_apart-x.ensures c.in-5.is)
-
-pub returns-in-12 : goal.returns-in-12
-returns-in-12 c =
-    c.within-in-12.ensures
-    ∙ sym (program_word _ _ c.take_apart-x.ensures (omega arith) (omega arith))
+  row : {r : Bool} (a b c : ℕ) → r ≡ (leb x.a a && leb x.b b && leb x.c c) → well_formed w ≡ limits w a b c → r ≡ well_formed w
+  row a b c e h = e ∙ rw (is.a, is.b, is.c) (sym h)
 
 pub returns-in_default : goal.returns-in_default
-returns-in_default c =
-    no_word _ _ c.take_apart-x.ensures (omega arith) (omega arith) (
-      (λ e. omega arith),
-      (λ e. omega arith),
-      (λ e. omega arith),
-      (λ e. omega arith),
-      (λ e. omega arith),
-    )
+returns-in_default c = no_word _ (subst (IsKind (kind_of c.args.w)) c.in_default.is c.take_apart-x.ensures.kind)
 
-pub returns-in_default-2 : goal.returns-in_default-2
-returns-in_default-2 c =
-    high_word _ _ c.take_apart-x.ensures (omega arith) (λ e. omega arith)
+pub returns-in-Meta : goal.returns-in-Meta
+returns-in-Meta c =
+    let n = λ (k : Kind). number c.take_apart-x.ensures k c.in-Some.is in
+    row c.take_apart-x.ensures _ _ _ c.within.ensures
+    (meta_word _ (elim c.in-Meta.is [
+      | inl k ↦ inr (omega (arith, n Meta k))
+      | inr h ↦ elim h [ inl k ↦ inr (omega (arith, n System k)) | inr k ↦ inl (n EndOfTrack k) ]
+    ]))
 
-pub returns-in-8 : goal.returns-in-8
-returns-in-8 c =
-    c.within-in-8.ensures
-    ∙ sym (note_word _ _ c.take_apart-x.ensures
-    (elim c.in-8-1.branch [ in-14-1 w ↦ inl (search rules) | in_default+else-k-lt2+else-k-lt8+then-k-lt12 w ↦ inr (omega arith, omega arith) ]))
+pub returns-in-Tempo : goal.returns-in-Tempo
+returns-in-Tempo c = tempo_word _ (number c.take_apart-x.ensures _ c.in-Some.is c.in-Tempo.is)
 
-pub returns-in-0 : goal.returns-in-0
-returns-in-0 c =
-    c.within-in-0.ensures
-    ∙ sym (meta_word _ _ c.take_apart-x.ensures
-    (elim c.in-0-1.branch [ in-6-1 w ↦ inl (search rules) | in_default+then-k-lt2 w ↦ inr (omega arith) ]))
+pub returns-in-Meter : goal.returns-in-Meter
+returns-in-Meter c =
+    row c.take_apart-x.ensures _ _ _ c.within-in-Meter.ensures
+    (meter_word _ (number c.take_apart-x.ensures _ c.in-Some.is c.in-Meter.is))
+
+pub returns-in-Key : goal.returns-in-Key
+returns-in-Key c =
+    row c.take_apart-x.ensures _ _ _ c.within-in-Key.ensures
+    (key_word _ (number c.take_apart-x.ensures _ c.in-Some.is c.in-Key.is))
+
+pub returns-in-Marker : goal.returns-in-Marker
+returns-in-Marker c =
+    row c.take_apart-x.ensures _ _ _ c.within-in-Marker.ensures
+    (marker_word _ (number c.take_apart-x.ensures _ c.in-Some.is c.in-Marker.is))
+
+pub returns-in-NoteOff : goal.returns-in-NoteOff
+returns-in-NoteOff c =
+    let n = λ (k : Kind). number c.take_apart-x.ensures k c.in-Some.is in
+    row c.take_apart-x.ensures _ _ _ c.within-in-NoteOff.ensures
+    (note_word _ (elim c.in-NoteOff.is [
+      | inl k ↦ inr (omega (arith, n NoteOff k), omega (arith, n NoteOff k))
+      | inr h ↦
+          elim h [
+            | inl k ↦ inr (omega (arith, n NoteOn k), omega (arith, n NoteOn k))
+            | inr h ↦
+                elim h [
+                  | inl k ↦ inr (omega (arith, n KeyPressure k), omega (arith, n KeyPressure k))
+                  | inr h ↦
+                      elim h [
+                        | inl k ↦ inr (omega (arith, n Controller k), omega (arith, n Controller k))
+                        | inr k ↦ inl (n Bend k)
+                      ]
+                ]
+          ]
+    ]))
+
+pub returns-in-Program : goal.returns-in-Program
+returns-in-Program c =
+    let n = λ (k : Kind). number c.take_apart-x.ensures k c.in-Some.is in
+    elim c.in-Program.is [
+      | inl k ↦
+          row c.take_apart-x.ensures _ _ _ c.within-in-Program.ensures
+          (program_word _ (omega (arith, n Program k)) (omega (arith, n Program k)))
+      | inr k ↦
+          row c.take_apart-x.ensures _ _ _ c.within-in-Program.ensures
+          (program_word _ (omega (arith, n ChannelPressure k)) (omega (arith, n ChannelPressure k)))
+    ]
