@@ -2,7 +2,6 @@
 use Prim.Native.Nat.{ℕ, ◌≤◌, ◌<◌}
 use mathlib.Core.List.{List, [], ◌∷◌, ◌++◌, append-nil}
 use mathlib.Core.Path.{◌≡◌, sym, ◌∙◌}
-use native.Mathlib.Nat.{pos_of_ne-zero}
 use native.Mathlib.Omega.{arith}
 use borrow.Author.Tests.{lt-ltb, le-ltb, le-leb, lt-leb, leb-false}
 use lib.Dec.{leb}
@@ -12,6 +11,11 @@ use Rattle.rules.specs.Calls.{part_track}
 use Rattle.rules.specs.Piece.{Piece, Event, tracks}
 use Rattle.rules.specs.RawNotes.{most_parts, has_notes, parts, most_notes}
 use Rattle.rules.specs.Refusals.{refused, Refusal, refuse, first_number, unless, most_events, piece_refusals, note_refusals, part_refusals, work_for, short_work}
+use Rattle.std.specs.Prelude.{Ok, Err}
+use Rattle.basics.specs.declared.Refusal as declared
+use Rattle.basics.specs.declared.Refusal.TheVariants.{NoNotes, NoSuchPart}
+use Rattle.basics.specs.Refusals.{number}
+use Rattle.admission.proofs.Refused.{positive}
 use Rattle.laws.specs.Admitted.{Passes, Admitted}
 use Rattle.laws.proofs.Lists.{All-append, All-left, All-right, All-get}
 use Rattle.laws.proofs.Places.{none_empty, some_left}
@@ -21,18 +25,16 @@ use Rattle.tracks.specs.Spans.{IsSpan}
 use Rattle.tracks.specs.declared.Span.{Span}
 use Rattle.tracks.proofs.Cuts.{span_track}
 use Rattle.tracks.proofs.Ranges.{ons, parts_most, most_few}
-use Rattle.opening.specs.declared.Opened.{Opened}
-use Rattle.opening.specs.declared.OpenedPart.{OpenedPart}
 use Rattle.opening.specs.Opening.{NotesOpened, PartOpened}
 
 -- ---- any list of refusals
 
-module _ {A : Type 0} (rs : List Refusal) {n : ℕ} (e : n ≡ first_number rs) (h : n ≡ 0 → ⊥) where
-  -- a number is the call's, whatever else it may refuse
-  pub refuses : (ss : List Refusal) (a : A) → unless (rs ++ ss) a ≡ refused n
-  refuses ss a = number_refused rs ss a n (sym e) (pos_of_ne-zero h)
+module _ {A : Type 0} (rs : List Refusal) (r : declared.Refusal) (e : number r ≡ first_number rs) where
+  -- a refusal is the call's, whatever else it may refuse
+  pub refuses : (ss : List Refusal) (a : A) → unless (rs ++ ss) a ≡ refused (number r)
+  refuses ss a = number_refused rs ss a (number r) (sym e) (positive r)
 
-  pub refuses_last : (a : A) → unless rs a ≡ refused n
+  pub refuses_last : (a : A) → unless rs a ≡ refused (number r)
   refuses_last a = rw append-nil at (refuses [] a)
 
 -- 8 for the work area, after refusals of which none applies
@@ -62,21 +64,21 @@ module _ {ds ws : List ℕ} {es : List Event} {r : Span} (s : IsSpan ds ws es r)
 part_numbers : (x : Piece) (k : ℕ) → Numbered (part_refusals x k)
 part_numbers x k = All-append _ (note_refusals x) _ (note_numbers x) (omega arith, tt)
 
-module _ (x : Piece) {r : Opened} (opened : NotesOpened x r) (z : r.number ≡ 0) where
+module _ (x : Piece) {n : ℕ} (opened : NotesOpened x (Ok n)) where
   pub notes_pass : Passes (note_refusals x)
-  notes_pass = number_passes (note_refusals x) (note_numbers x) (sym opened.number ∙ z)
+  notes_pass = number_passes (note_refusals x) (note_numbers x) (sym opened.number)
 
   pub notes_admitted : Admitted x
   notes_admitted = admitted x (All-left _ (piece_refusals x) _ notes_pass)
 
-  pub few_parts : r.parts ≤ most_parts
-  few_parts = omega (arith, opened.parts z, length-take most_parts (keep has_notes (tracks x)))
+  pub few_parts : n ≤ most_parts
+  few_parts = omega (arith, opened.parts, length-take most_parts (keep has_notes (tracks x)))
 
 -- ---- none of a part's
 
-module _ (x : Piece) (k : ℕ) {r : OpenedPart} (opened : PartOpened x k r) (z : r.number ≡ 0) where
+module _ (x : Piece) (k : ℕ) {s : Span} (opened : PartOpened x k (Ok s)) where
   pub part_passes : Passes (part_refusals x k)
-  part_passes = number_passes (part_refusals x k) (part_numbers x k) (sym opened.number ∙ z)
+  part_passes = number_passes (part_refusals x k) (part_numbers x k) (sym opened.number)
 
   pub part_admitted : Admitted x
   part_admitted = admitted_part x k part_passes
@@ -84,27 +86,23 @@ module _ (x : Piece) (k : ℕ) {r : OpenedPart} (opened : PartOpened x k r) (z :
   is_part : k < length (parts x)
   is_part = leb-false (length (parts x)) k (All-right _ (note_refusals x) _ part_passes).0
 
-  pub own_track : Track (stretch r.from r.to x.deltas) (stretch r.from r.to x.words)
-  own_track = span_track x part_admitted (opened.own z)
+  pub own_track : Track (stretch s.from s.to x.deltas) (stretch s.from s.to x.words)
+  own_track = span_track x part_admitted opened.own
 
   -- the part's track has at most N notes
   pub few_ons : {n : ℕ} → n ≡ most_notes x
-      → ons (events_of (stretch r.from r.to x.deltas) (stretch r.from r.to x.words)) ≤ n
-  few_ons most = rw ((opened.own z).events, most) (All-get (λ es. ons es ≤ most_notes x) (parts x) k [] (parts_most x) is_part)
+      → ons (events_of (stretch s.from s.to x.deltas) (stretch s.from s.to x.words)) ≤ n
+  few_ons most = rw (opened.own.events, most) (All-get (λ es. ons es ≤ most_notes x) (parts x) k [] (parts_most x) is_part)
 
 -- ---- one number after another
 
-module _ (x : Piece) {n : ℕ} (e : n ≡ first_number (piece_refusals x)) where
-  pub refused_notes : (n ≡ 0 → ⊥) → NotesOpened x (record { number = n; parts = 0 })
-  refused_notes h =
-      record {
-        number = sym (number_first (piece_refusals x) _ _ (sym e) (pos_of_ne-zero h));
-        parts = λ z. absurd (h z);
-      }
+module _ (x : Piece) where
+  pub refused_notes : (r : declared.Refusal) → number r ≡ first_number (piece_refusals x) → NotesOpened x (Err r)
+  refused_notes r e = record { number = sym (number_first (piece_refusals x) _ _ (sym e) (positive r)); parts = tt }
 
-  module _ (z : n ≡ 0) where
+  module _ (e : 0 ≡ first_number (piece_refusals x)) where
     pub piece_passes : Passes (piece_refusals x)
-    piece_passes = number_passes (piece_refusals x) (piece_numbers x) (sym e ∙ z)
+    piece_passes = number_passes (piece_refusals x) (piece_numbers x) (sym e)
 
     pub piece_admitted : Admitted x
     piece_admitted = admitted x piece_passes
@@ -113,42 +111,29 @@ module _ (x : Piece) {n : ℕ} (e : n ≡ first_number (piece_refusals x)) where
     sixth = number_after (piece_refusals x) _ piece_passes
 
     module _ {m : ℕ} (count : m ≡ length (parts x)) where
-      pub no_notes : m ≡ 0 → NotesOpened x (record { number = 6; parts = 0 })
+      pub no_notes : m ≡ 0 → NotesOpened x (Err NoNotes)
       unfolding first_number
-      no_notes h =
-          record {
-            number = sym (sixth ∙ rw (none_empty (parts x) (sym count ∙ h)));
-            parts = λ f. absurd (omega arith);
-          }
+      no_notes h = record { number = sym (sixth ∙ rw (none_empty (parts x) (sym count ∙ h))); parts = tt }
 
-      pub with_notes : (m ≡ 0 → ⊥) → NotesOpened x (record { number = 0; parts = m })
+      pub with_notes : (m ≡ 0 → ⊥) → NotesOpened x (Ok m)
       unfolding first_number
-      with_notes h = record { number = sym (sixth ∙ rw (some_left (parts x) (λ f. h (count ∙ f)))); parts = λ f. count }
+      with_notes h = record { number = sym (sixth ∙ rw (some_left (parts x) (λ f. h (count ∙ f)))); parts = count }
 
-module _ (x : Piece) (k : ℕ) {r : Opened} (opened : NotesOpened x r) where
-  pub refused_part : (r.number ≡ 0 → ⊥) → PartOpened x k (record { number = r.number; from = 0; to = 0 })
-  refused_part h =
-      record {
-        number = sym (number_first (note_refusals x) _ _ (sym opened.number) (pos_of_ne-zero h));
-        own = λ z. absurd (h z);
-      }
+module _ (x : Piece) (k : ℕ) where
+  pub refused_part : (r : declared.Refusal) → number r ≡ first_number (note_refusals x) → PartOpened x k (Err r)
+  refused_part r e = record { number = sym (number_first (note_refusals x) _ _ (sym e) (positive r)); own = tt }
 
-  module _ (z : r.number ≡ 0) where
+  module _ {n : ℕ} (opened : NotesOpened x (Ok n)) where
     seventh : first_number (part_refusals x k) ≡ first_number (refuse 7 (leb (length (parts x)) k) ∷ [])
-    seventh = number_after (note_refusals x) _ (notes_pass x opened z)
+    seventh = number_after (note_refusals x) _ (notes_pass x opened)
 
-    pub no_part : r.parts ≤ k → PartOpened x k (record { number = 7; from = 0; to = 0 })
+    pub no_part : n ≤ k → PartOpened x k (Err NoSuchPart)
     unfolding first_number
-    no_part h =
-        record {
-          number = sym (seventh ∙ rw (le-leb (length (parts x)) k (omega (arith, opened.parts z))));
-          own = λ e. absurd (omega arith);
-        }
+    no_part h = record { number = sym (seventh ∙ rw (le-leb (length (parts x)) k (omega (arith, opened.parts)))); own = tt }
 
-    pub there : k < r.parts → k < length (parts x)
-    there h = omega (arith, opened.parts z)
+    pub there : k < n → k < length (parts x)
+    there h = omega (arith, opened.parts)
 
-    pub with_part : (s : Span) → k < r.parts → IsSpan x.deltas x.words (part_track x k) s
-        → PartOpened x k (record { number = 0; from = s.from; to = s.to })
+    pub with_part : (s : Span) → k < n → IsSpan x.deltas x.words (part_track x k) s → PartOpened x k (Ok s)
     unfolding first_number
-    with_part s h own = record { number = sym (seventh ∙ rw (lt-leb (length (parts x)) k (there h))); own = λ e. own }
+    with_part s h own = record { number = sym (seventh ∙ rw (lt-leb (length (parts x)) k (there h))); own = own }

@@ -1,19 +1,18 @@
 -- `open_part`: what `open_notes` says, then 7, then the part's track.
+use Rattle.std.proofs.lemmas.Result.{err_from_is_err_and}
 use Rattle.opening.proofs.Opening.{notes_admitted, refused_part, no_part, there, with_part}
 use Rattle.opening.proofs.open_part.Goals as goal
 
-pub returns-then-opened-ne0 : goal.returns-then-opened-ne0
-returns-then-opened-ne0 c = refused_part _ _ c.open_notes-opened.ensures c.if-opened-ne0.true
+pub returns-in_err-parts : goal.returns-in_err-parts
+returns-in_err-parts c =
+    let p = err_from_is_err_and c.from_residual.result c.from_residual.ensures.1 in
+    rw (p.1, p.2) (refused_part _ _ _ c.in_err-parts.ensures.number)
 
-pub returns-then-opened-part : goal.returns-then-opened-part
-returns-then-opened-part c =
-    no_part _ _ c.open_notes-opened.ensures c.if-opened-ne0.false c.if-opened-part.true
+pub returns-then-parts-part : goal.returns-then-parts-part
+returns-then-parts-part c = no_part _ _ c.in_ok-parts.ensures c.if-parts-part.true
 
-pub part_track-track-requires : goal.part_track-track-requires
-part_track-track-requires c =
-    let opened = c.open_notes-opened.ensures in
-    ((notes_admitted _ opened c.if-opened-ne0.false).sizes, there _ _ opened c.if-opened-ne0.false c.if-opened-part.false)
+pub part_track-requires : goal.part_track-requires
+part_track-requires c = ((notes_admitted _ c.in_ok-parts.ensures).sizes, there _ _ c.in_ok-parts.ensures c.if-parts-part.false)
 
 pub returns : goal.returns
-returns c =
-    with_part _ _ c.open_notes-opened.ensures c.if-opened-ne0.false _ c.if-opened-part.false c.part_track-track.ensures
+returns c = with_part _ _ c.in_ok-parts.ensures _ c.if-parts-part.false c.part_track.ensures
