@@ -12,8 +12,6 @@ use lib.ListN.{length, get_or, set, replicate, get_or-replicate}
 use lib.Pow.{pow_pos, pow-add}
 use lib.Seq.{get_or-set_same, get_or-set_other}
 use Rattle.rules.specs.Piece.{well_formed, kind_of, byte_a, byte_b, byte_c}
-use Rattle.track_events.specs.declared.Word.{Word}
-use Rattle.track_events.specs.Track.{IsWord}
 use Rattle.track_events.proofs.WordTable.{limits, meta_word, tempo_word, meter_word, key_word, marker_word, note_word, program_word}
 use Rattle.laws.proofs.Order.{by_eq, by_lt}
 use Rattle.admission.specs.Bad.{AllFormed, mask, masks, Masked, HasMasks}
@@ -51,17 +49,11 @@ low a i l h z =
 byte_and : (w m v k : ℕ) → bit_and w m ≡ v → bit_and (w / 2 ^ k % 256) (m / 2 ^ k % 256) ≡ v / 2 ^ k % 256
 byte_and w m v k z = sym (and_mod (w / 2 ^ k) (m / 2 ^ k) 8) ∙ rw (← and_shr w m k, z)
 
-abbrev apart : ℕ → Word
-apart w = record { kind = kind_of w; a = byte_a w; b = byte_b w; c = byte_c w }
-
-is_apart : (w : ℕ) → IsWord w (apart w)
-is_apart w = record { kind = refl; a = refl; b = refl; c = refl }
-
 -- a word of which, under t and a mask, only bits of the kind are left has its bytes within limits
 limited : (w t u i j k : ℕ)
     → (i ≤ 8) × (j ≤ 8) × (k ≤ 8)
     → bit_and w (t * 16777216 + mask i j k) ≡ u * 16777216
-    → limits (apart w) (2 ^ i - 1) (2 ^ j - 1) (2 ^ k - 1) ≡ true
+    → limits w (2 ^ i - 1) (2 ^ j - 1) (2 ^ k - 1) ≡ true
 limited w t u i j k h z =
     let m = t * 16777216 + mask i j k in
     let v = u * 16777216 in
@@ -87,12 +79,6 @@ rows P m (suc n) h = λ p. rows P (suc m) n (λ k l. elim (by_eq k m) [ inl e �
 
 -- a word that has no bit of its kind's mask
 module _ (w : ℕ) (h : w < 2 ^ 32) where
-  abbrev x : Word
-  x = apart w
-
-  abbrev is : IsWord w x
-  is = is_apart w
-
   abbrev Row : ℕ → Type 0
   Row k = kind_of w ≡ k → bit_and w (get_or masks k 0) ≡ 0 → well_formed w ≡ true
 
@@ -100,13 +86,13 @@ module _ (w : ℕ) (h : w < 2 ^ 32) where
   none p z = absurd (omega (arith, and_mask w 32))
 
   meta : (kind_of w ≡ 6) ⊎ (kind_of w < 2) → bit_and w (mask 0 0 0) ≡ 0 → well_formed w ≡ true
-  meta e z = meta_word w x is e ∙ limited w 0 0 0 0 0 (omega arith) z
+  meta e z = meta_word w e ∙ limited w 0 0 0 0 0 (omega arith) z
 
   note : (kind_of w ≡ 14) ⊎ ((8 ≤ kind_of w) × (kind_of w < 12)) → bit_and w (mask 4 7 7) ≡ 0 → well_formed w ≡ true
-  note e z = note_word w x is e ∙ limited w 0 0 4 7 7 (omega arith) z
+  note e z = note_word w e ∙ limited w 0 0 4 7 7 (omega arith) z
 
   program : (12 ≤ kind_of w) × (kind_of w < 14) → bit_and w (mask 4 7 0) ≡ 0 → well_formed w ≡ true
-  program e z = program_word w x is e.0 e.1 ∙ limited w 0 0 4 7 0 (omega arith) z
+  program e z = program_word w e.0 e.1 ∙ limited w 0 0 4 7 0 (omega arith) z
 
   by_kind : (k : ℕ) → k < 15 → Row k
   by_kind =
@@ -117,10 +103,10 @@ module _ (w : ℕ) (h : w < 2 ^ 32) where
       (λ k l. absurd (omega arith))
       (λ e. meta (inr (omega arith)))
       (λ e. meta (inr (omega arith)))
-      (λ e z. sym (tempo_word w x is e))
-      (λ e z. meter_word w x is e ∙ limited w 0 0 8 3 0 (omega arith) z)
-      (λ e z. key_word w x is e ∙ limited w 0 0 8 1 0 (omega arith) z)
-      (λ e z. marker_word w x is e ∙ limited w 0 0 8 8 0 (omega arith) z)
+      (λ e z. sym (tempo_word w e))
+      (λ e z. meter_word w e ∙ limited w 0 0 8 3 0 (omega arith) z)
+      (λ e z. key_word w e ∙ limited w 0 0 8 1 0 (omega arith) z)
+      (λ e z. marker_word w e ∙ limited w 0 0 8 8 0 (omega arith) z)
       (λ e. meta (inl e))
       (λ e. none (omega arith))
       (λ e. note (inr (omega arith)))
@@ -148,7 +134,7 @@ module _ (w : ℕ) (h : w < 2 ^ 32) where
       let high : kind_of w / 4 % 64 * 4 ≡ 8 = sym (and_high (kind_of w) 6 2) ∙ rw kind at (byte_and w m v 24 only) in
       let few : kind_of w / 4 < 64 = omega arith in
       let two : kind_of w / 4 ≡ 2 = omega (arith, high, mod-eq_of_lt few) in
-      note_word w x is (inr (omega (arith, two), omega (arith, two))) ∙ limited w 252 8 4 7 7 (omega arith) only
+      note_word w (inr (omega (arith, two), omega (arith, two))) ∙ limited w 252 8 4 7 7 (omega arith) only
 
 -- ---- blocks
 
