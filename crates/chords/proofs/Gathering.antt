@@ -16,7 +16,7 @@ use Rattle.laws.proofs.Order.{by_eq}
 use Rattle.laws.proofs.VoiceSteps.{Past, gathered_falls, join_at, join_none}
 use Rattle.laws.specs.Places.{up_to, down}
 use Rattle.chords.specs.Columns.{falling_at, chord_at, ChordsIn}
-use Rattle.chords.specs.Steps.{Same, Stored}
+use Rattle.chords.specs.Steps.{Same, Stored, Takes}
 use Rattle.laws.proofs.Places.{up_to_more, up_to_split, down_same, down_more, down_split, down_none, reverse_down, foldl_more}
 
 -- ---- chords given place by place, most recent first
@@ -61,13 +61,6 @@ pub record Searching (n m i : ℕ) (x : RawNote) (w : List ℕ) : Type 0 where
   pub within : i ≤ m
   pub none : (j : ℕ) → i ≤ j → j < m → joins x (chord_at n w j) ≡ false
 
--- what the search has found: the place of the chord that takes the note, or m for a new one
-pub record Found (n m at : ℕ) (x : RawNote) (w : List ℕ) : Type 0 where
-  pub within : at ≤ m
-  pub opens : at ≡ m → join_or_open (down (chord_at n w) m) x ≡ opened x ∷ down (chord_at n w) m
-  pub here : (at ≡ m → ⊥) → joins x (chord_at n w at) ≡ true
-  pub none : (at ≡ m → ⊥) → (j : ℕ) → at < j → j < m → joins x (chord_at n w j) ≡ false
-
 pub searching_none : (n m : ℕ) (x : RawNote) (w : List ℕ) → Searching n m m x w
 searching_none n m x w = record { within = omega arith; none = λ j l h. absurd (omega arith) }
 
@@ -85,23 +78,16 @@ module _ {n m i : ℕ} {x : RawNote} {w : List ℕ} where
       }
 
   pub found_none : Searching n m i x w → FallsFrom chord_start x.start (down (chord_at n w) m) → (0 < i → (chord_at n w (i - 1)).start ≡ x.start → ⊥)
-      → Found n m m x w
-  found_none s f p =
-      record {
-        within = omega arith;
-        opens = λ e. opens_one x (chord_at n w) m i s.within s.none p f;
-        here = λ e. absurd (e refl);
-        none = λ e. absurd (e refl);
-      }
+      → join_or_open (down (chord_at n w) m) x ≡ opened x ∷ down (chord_at n w) m
+  found_none s f p = opens_one x (chord_at n w) m i s.within s.none p f
 
-  pub found_one : Searching n m i x w → 0 < i → (chord_at n w (i - 1)).start ≡ x.start → (chord_at n w (i - 1)).end ≡ x.end → Found n m (i - 1) x w
+  pub found_one : Searching n m i x w → 0 < i → (chord_at n w (i - 1)).start ≡ x.start → (chord_at n w (i - 1)).end ≡ x.end → Takes n m (i - 1) x w
   found_one s h p q =
       let l = s.within in
       record {
         within = omega arith;
-        opens = λ e. absurd (omega arith);
-        here = λ e. rw (eq-eqb (chord_at n w (i - 1)).start x.start p) (eq-eqb (chord_at n w (i - 1)).end x.end q);
-        none = λ e j k o. s.none j (omega arith) o;
+        here = rw (eq-eqb (chord_at n w (i - 1)).start x.start p) (eq-eqb (chord_at n w (i - 1)).end x.end q);
+        none = λ j k o. s.none j (omega arith) o;
       }
 
 -- ---- the notes
@@ -132,8 +118,9 @@ module _ {n count m k : ℕ} {w w' : List ℕ} {x : RawNote} (room : count ≤ n
   one_more : join_or_open (down (chord_at n w') m) x ≡ gathered (up_to (falling_at n w) (k + 1))
   one_more = rw (g.so_far, note_is, up_to_more, foldl_more)
 
-  pub gathering_open : {at : ℕ} {w₂ : List ℕ} → Found n m at x w' → at ≡ m → Stored n m (opened x) w' w₂ → Gathering n count (m + 1) (k + 1) w w₂
-  gathering_open {at} {w₂} f e s =
+  pub gathering_open : {w₂ : List ℕ} → join_or_open (down (chord_at n w') m) x ≡ opened x ∷ down (chord_at n w') m → Stored n m (opened x) w' w₂
+      → Gathering n count (m + 1) (k + 1) w w₂
+  gathering_open {w₂} opens s =
       let few = g.few in
       record {
         kept = s.kept ∙ g.kept;
@@ -142,12 +129,12 @@ module _ {n count m k : ℕ} {w w' : List ℕ} {x : RawNote} (room : count ≤ n
         notes = λ j l o. s.front j l o ∙ g.notes j l o;
         so_far =
             down_more (chord_at n w₂) m
-            ∙ rw (s.here, down_same (chord_at n w₂) (chord_at n w') m (λ j l. s.there j (omega arith) (λ z. omega arith))) (sym (f.opens e) ∙ one_more);
+            ∙ rw (s.here, down_same (chord_at n w₂) (chord_at n w') m (λ j l. s.there j (omega arith) (λ z. omega arith))) (sym opens ∙ one_more);
       }
 
-  pub gathering_join : {at : ℕ} {w₂ : List ℕ} → Found n m at x w' → (at ≡ m → ⊥) → Stored n at (joined x (chord_at n w' at)) w' w₂
+  pub gathering_join : {at : ℕ} {w₂ : List ℕ} → Takes n m at x w' → Stored n at (joined x (chord_at n w' at)) w' w₂
       → Gathering n count m (k + 1) w w₂
-  gathering_join {at} {w₂} f e s =
+  gathering_join {at} {w₂} f s =
       let few = g.few in
       let within = f.within in
       record {
@@ -156,7 +143,7 @@ module _ {n count m k : ℕ} {w w' : List ℕ} {x : RawNote} (room : count ≤ n
         few = omega arith;
         notes = λ j l o. s.front j l o ∙ g.notes j l o;
         so_far =
-            joins_one x (chord_at n w') m at (omega arith) (f.here e) (f.none e) (chord_at n w₂) s.here (λ j l d. s.there j (omega arith) d) ∙ one_more;
+            joins_one x (chord_at n w') m at (omega arith) f.here f.none (chord_at n w₂) s.here (λ j l d. s.there j (omega arith) d) ∙ one_more;
       }
 
 pub gathering_end : {n count m k : ℕ} {w w' : List ℕ} → count ≤ n → count ≤ k → Gathering n count m k w w'

@@ -1,9 +1,10 @@
 -- What the steps on the way to the chords promise. w and w' are the work area before and after.
-use Rattle.std.specs.Prelude.{ℕ, ◌+◌, ◌*◌, ◌≤◌, ◌<◌, List, ◌≡◌, length, get_or}
+use Rattle.std.specs.Prelude.{ℕ, ◌+◌, ◌*◌, ◌≤◌, ◌<◌, true, false, List, ◌∷◌, Option, MatchOption, ◌≡◌, length, get_or}
 use Rattle.rules.specs.Grid.{snapped}
-use Rattle.rules.specs.Voices.{Chord, by_falling_key, sorted_notes}
+use Rattle.rules.specs.RawNotes.{RawNote}
+use Rattle.rules.specs.Voices.{Chord, opened, joins, join_or_open, by_falling_key, sorted_notes}
 use Rattle.laws.specs.NoteWords.{end_word}
-use Rattle.laws.specs.Places.{up_to}
+use Rattle.laws.specs.Places.{up_to, down}
 use Rattle.chords.specs.Columns.{note_at, falling_at, chord_at}
 
 -- the words from a up to b are as they were
@@ -34,3 +35,14 @@ pub record Stored (n i : ℕ) (c : Chord) (w w' : List ℕ) : Type 0 where
   pub there : (j : ℕ) → j < n → (j ≡ i → ⊥) → chord_at n w' j ≡ chord_at n w j
   pub front : Same 0 (5 * n) w w'
   pub back : (j : ℕ) → 10 * n ≤ j → get_or w' j 0 ≡ get_or w j 0
+
+-- of the first m chords the one at place i takes the note x: it joins, and none behind it
+pub record Takes (n m i : ℕ) (x : RawNote) (w : List ℕ) : Type 0 where
+  pub within : i < m
+  pub here : joins x (chord_at n w i) ≡ true
+  pub none : (j : ℕ) → i < j → j < m → joins x (chord_at n w j) ≡ false
+
+-- the place of the chord that takes the note x; none: the note opens one
+abbrev pub PlaceFor : ℕ → ℕ → RawNote → List ℕ → Option ℕ → Type 0
+PlaceFor n m x w r =
+    MatchOption r (join_or_open (down (chord_at n w) m) x ≡ opened x ∷ down (chord_at n w) m) (λ i. Takes n m i x w)

@@ -13,11 +13,11 @@
 ghost use Rattle.std.specs.Prelude.{ℕ, ◌+◌, ◌*◌, ◌^◌, ◌≤◌, ◌<◌, ◌≡◌, length, get_or};
 ghost use Rattle.std.specs.Int.Bits.{bit_or};
 ghost use Rattle.rules.specs.RawNotes.{RawNote};
-ghost use Rattle.rules.specs.Voices.{opened, joined};
-ghost use Rattle.laws.specs.Sort.{Rises};
-ghost use Rattle.laws.specs.Places.{up_to};
+ghost use Rattle.rules.specs.Voices.{Chord, opened, joined};
+ghost use Rattle.laws.specs.Sort.{Rises, FallsFrom};
+ghost use Rattle.laws.specs.Places.{up_to, down};
 ghost use Rattle.chords.specs.Columns.{falling_at, note_of, Ready, chord_at, keys_of, chord_of, chords_of, ChordsIn};
-ghost use Rattle.chords.specs.Steps.{SnappedTo, Fetched, SortedTo, Stored};
+ghost use Rattle.chords.specs.Steps.{SnappedTo, Fetched, SortedTo, Stored, PlaceFor};
 
 // A note.
 #[derive(Clone, Copy)]
@@ -51,15 +51,13 @@ fn snap_words(work: &mut [u64], n: usize, count: usize, g: u64)
     requires { Ready n count g work.old }
     ensures { SnappedTo n count g work.old work.new }
 {
-    let mut i = 0;
-    while i < count {
+    for i in 0..count {
         let start_word = work[n + i];
         let end_word = work[i];
         let start = grid::snap(start_word / 128, g);
-        let end = basics::larger(grid::snap(end_word / 16, g), start + g);
+        let end = grid::snap(end_word / 16, g).max(start + g);
         work[4 * n + i] = start * 128 + (127 - start_word % 128);
         work[5 * n + i] = end * 16 + end_word % 16;
-        i += 1;
     }
 }
 
@@ -68,14 +66,12 @@ fn fetch_notes(work: &mut [u64], n: usize, count: usize)
     requires { (16 * n ≤ length work.old) × (count ≤ n) × ((i : ℕ) → i < count → get_or work.old (2 * n + i) 0 < n) }
     ensures { Fetched n count work.old work.new }
 {
-    let mut i = 0;
-    while i < count {
+    for i in 0..count {
         let place = work[2 * n + i] as usize;
         let end = work[5 * n + place];
         let start = work[4 * n + place];
         work[i] = end;
         work[n + i] = start;
-        i += 1;
     }
 }
 
@@ -157,7 +153,7 @@ pub fn put_chord(work: &mut [u64], n: usize, i: usize, c: VoiceChord)
     ensures { Stored n i (chord_of c) work.old work.new }
 {
     let keys = c.keys;
-    let mark = if c.unpitched { 1 } else { 0 };
+    let mark = u64::from(c.unpitched);
     work[5 * n + i] = c.start;
     work[6 * n + i] = c.end;
     work[7 * n + i] = keys.low;
@@ -198,35 +194,37 @@ fn join_chord(work: &mut [u64], n: usize, i: usize, note: Note)
     put_chord(work, n, i, d);
 }
 
+// The place of the chord that takes the note, of the first m: the most recent of its start and end. The chords come in order, so the search
+// ends at another start.
+fn place_for(work: &[u64], n: usize, m: usize, note: Note) -> Option<usize>
+    requires { (16 * n ≤ length work.now) × (m ≤ n) × FallsFrom (λ (c : Chord). c.start) note.start (down (chord_at n work.now) m) }
+    ensures { PlaceFor n m (note_of note) work.now result }
+{
+    for i in (0..m).rev() {
+        if work[5 * n + i] != note.start {
+            return None;
+        }
+        if work[6 * n + i] == note.end {
+            return Some(i);
+        }
+    }
+    None
+}
+
 // Gathers the sorted notes to chords: a note joins the most recent chord of its start and end, or opens one. Answers how many there are.
 pub fn gather_chords(work: &mut [u64], n: usize, count: usize) -> usize
     requires { (16 * n ≤ length work.old) × (count ≤ n) × Rises (λ (x : RawNote). x.start) (up_to (falling_at n work.old) count) }
     ensures { ChordsIn (chords_of (up_to (falling_at n work.old) count)) n result work.new }
 {
     let mut chords = 0;
-    let mut k = 0;
-    while k < count {
+    for k in 0..count {
         let note = note_at(work, n, k);
-        let mut i = chords;
-        let at = 'search: loop {
-            if i == 0 {
-                break 'search chords;
+        match place_for(work, n, chords, note) {
+            Some(i) => join_chord(work, n, i, note),
+            None => {
+                open_chord(work, n, chords, note);
+                chords += 1;
             }
-            i -= 1;
-            if work[5 * n + i] != note.start {
-                break 'search chords;
-            }
-            if work[6 * n + i] == note.end {
-                break 'search i;
-            }
-        };
-        if at == chords {
-            open_chord(work, n, chords, note);
-            chords += 1;
-            k += 1;
-        } else {
-            join_chord(work, n, at, note);
-            k += 1;
         }
     }
     chords

@@ -1,10 +1,11 @@
 -- `put_chord` stores a chord's five words; the last one is its mark.
-use mathlib.Core.Path.{◌≡◌, sym}
+use mathlib.Core.Bool.{Bool, true, false}
+use mathlib.Core.Path.{◌≡◌, refl}
+use mir.Val.{bool_byte}
 use native.Mathlib.Omega.{arith}
 use lib.Dec.{eqb}
 use lib.ListN.{length-set}
 use Rattle.chords.proofs.Stores.{five_stored}
-use Rattle.chords.proofs.put_chord.Goals.{then-c, else-c}
 use Rattle.chords.proofs.put_chord.Goals as goal
 
 pub bounds-work-n-2 : goal.bounds-work-n-2
@@ -19,9 +20,10 @@ bounds-work-n-4 c = simp length-set (omega arith)
 pub bounds-work-n-5 : goal.bounds-work-n-5
 bounds-work-n-5 c = simp length-set (omega arith)
 
+-- the mark that is put is that of the chord
+marked : (b : Bool) → eqb (bool_byte b) 1 ≡ b
+marked true = refl
+marked false = refl
+
 pub returns : goal.returns
-returns c =
-    -- the mark that is put is that of the chord
-    let marked : eqb c.if-c.mark 1 ≡ c.args.c.unpitched =
-    elim c.if-c.branch [ then-c w ↦ rw w.mark-is (sym w.if-c.true) | else-c w ↦ rw w.mark-is (sym w.if-c.false) ] in
-    five_stored _ _ _ _ _ _ _ c.if-c.mark _ (omega arith) (omega arith) marked
+returns c = five_stored _ _ _ _ _ _ _ c.from-mark.result _ (omega arith) (omega arith) (rw c.from-mark.ensures (marked c.args.c.unpitched))

@@ -35,14 +35,14 @@ pub overflow_mul-work-in-loop-i-2 : goal.overflow_mul-work-in-loop-i-2
 overflow_mul-work-in-loop-i-2 c =
     let started : c.snap-start.result ≤ 2 ^ 47 + 32767 =
     omega (arith, words c.requires c.loop-i.invariant (omega arith), snap_le c.args.g (get_or c.loop-i.work (c.args.n + c.loop-i.i) 0 / 128)) in
-    let ended : c.larger-end.result ≤ 2 ^ 47 + 98302 = omega (arith, words c.requires c.loop-i.invariant (omega arith), snap_le c.args.g (get_or c.loop-i.work c.loop-i.i 0 / 16)) in
+    let ended : c.max-end.result ≤ 2 ^ 47 + 98302 = omega (arith, words c.requires c.loop-i.invariant (omega arith), snap_le c.args.g (get_or c.loop-i.work c.loop-i.i 0 / 16)) in
     omega arith
 
 pub overflow_add-work-in-loop-i-2 : goal.overflow_add-work-in-loop-i-2
 overflow_add-work-in-loop-i-2 c =
     let started : c.snap-start.result ≤ 2 ^ 47 + 32767 =
     omega (arith, words c.requires c.loop-i.invariant (omega arith), snap_le c.args.g (get_or c.loop-i.work (c.args.n + c.loop-i.i) 0 / 128)) in
-    let ended : c.larger-end.result ≤ 2 ^ 47 + 98302 = omega (arith, words c.requires c.loop-i.invariant (omega arith), snap_le c.args.g (get_or c.loop-i.work c.loop-i.i 0 / 16)) in
+    let ended : c.max-end.result ≤ 2 ^ 47 + 98302 = omega (arith, words c.requires c.loop-i.invariant (omega arith), snap_le c.args.g (get_or c.loop-i.work c.loop-i.i 0 / 16)) in
     omega arith
 
 pub bounds-work-n-in-loop-i-2 : goal.bounds-work-n-in-loop-i-2
@@ -50,7 +50,7 @@ bounds-work-n-in-loop-i-2 c = simp length-set (omega arith)
 
 pub loop-i-preserved : goal.loop-i-preserved
 loop-i-preserved c =
-    snapping_one c.requires c.loop-i.invariant (omega arith) _ _ c.snap-start.ensures (rw c.snap.ensures at c.larger-end.ensures)
+    snapping_one c.requires c.loop-i.invariant (omega arith) _ _ c.snap-start.ensures (rw c.snap.ensures at c.max-end.ensures)
 
 pub returns : goal.returns
 returns c = snapping_end (omega arith) c.loop-i.invariant

@@ -1,10 +1,6 @@
 -- `snap_words` snaps the notes word by word. The invariant: the first i are snapped to columns 4 and 5, and all notes stand as they did.
-use Prim.Native.Nat.{◌-◌}
 use Rattle.chords.proofs.Sorting.{Snapping}
 use Rattle.chords.proofs.snap_words.Given as goal
 
 abbrev pub invariant-loop-i : goal.invariant-loop-i
 invariant-loop-i l = Snapping l.n l.count l.g l.i l.initial.work l.work
-
-abbrev pub decreases-loop-i : goal.decreases-loop-i
-decreases-loop-i l = l.count - l.i
