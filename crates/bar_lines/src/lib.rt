@@ -16,11 +16,8 @@ fn bar_length(p: u64, upper: u32, lower: u32) -> u64
     if lower == 0 {
         return 1;
     }
-    let length = 4 * p * (upper as u64) / (lower as u64);
-    if length == 0 {
-        return 1;
-    }
-    length
+    let length = 4 * p * u64::from(upper) / u64::from(lower);
+    length.max(1)
 }
 
 // The meter where it is printed, else `-`.
@@ -29,11 +26,11 @@ fn put_meter(out: &mut [u8], at: usize, upper: u32, lower: u32, printed: bool) -
     ensures { Adds 41 (meter_text upper lower printed) at out.old result out.new }
 {
     if printed {
-        let a = line_text::put_decimal(out, at, upper as u64);
-        let b = line_text::put(out, a, 47);
-        return line_text::put_decimal(out, b, lower as u64);
+        let a = line_text::put_decimal(out, at, u64::from(upper));
+        let b = line_text::put(out, a, b'/');
+        return line_text::put_decimal(out, b, u64::from(lower));
     }
-    line_text::put(out, at, 45)
+    line_text::put(out, at, b'-')
 }
 
 // The tempo, or `-`.
@@ -42,9 +39,9 @@ fn put_tempo(out: &mut [u8], at: usize, tempo: u32) -> usize
     ensures { Adds 20 (tempo_text tempo) at out.old result out.new }
 {
     if tempo == 0 {
-        return line_text::put(out, at, 45);
+        return line_text::put(out, at, b'-');
     }
-    line_text::put_decimal(out, at, tempo as u64)
+    line_text::put_decimal(out, at, u64::from(tempo))
 }
 
 // Fifths that are given as fifths + 8.
@@ -53,10 +50,10 @@ fn put_fifths(out: &mut [u8], at: usize, raised: u32) -> usize
     ensures { Adds 21 (fifths_text raised) at out.old result out.new }
 {
     if raised < 8 {
-        let a = line_text::put(out, at, 45);
-        return line_text::put_decimal(out, a, (8 - raised) as u64);
+        let a = line_text::put(out, at, b'-');
+        return line_text::put_decimal(out, a, u64::from(8 - raised));
     }
-    line_text::put_decimal(out, at, (raised - 8) as u64)
+    line_text::put_decimal(out, at, u64::from(raised - 8))
 }
 
 // The key, fifths and M or m, or `-`.
@@ -65,13 +62,13 @@ fn put_signature(out: &mut [u8], at: usize, raised: u32, minor: bool) -> usize
     ensures { Adds 22 (key_text raised minor) at out.old result out.new }
 {
     if raised == 0 {
-        return line_text::put(out, at, 45);
+        return line_text::put(out, at, b'-');
     }
     let a = put_fifths(out, at, raised);
     if minor {
-        return line_text::put(out, a, 109);
+        return line_text::put(out, a, b'm');
     }
-    line_text::put(out, a, 77)
+    line_text::put(out, a, b'M')
 }
 
 // `bar`, number, start, length.
@@ -91,13 +88,13 @@ fn put_bar_marks(out: &mut [u8], at: usize, m: Mark) -> usize
     requires { at + 87 ≤ length out.old }
     ensures { Adds 87 (bar_marks m) at out.old result out.new }
 {
-    let a = line_text::put(out, at, 32);
+    let a = line_text::put(out, at, b' ');
     let b = put_meter(out, a, m.upper, m.lower, m.printed);
-    let c = line_text::put(out, b, 32);
+    let c = line_text::put(out, b, b' ');
     let d = put_tempo(out, c, m.tempo);
-    let e = line_text::put(out, d, 32);
+    let e = line_text::put(out, d, b' ');
     let f = put_signature(out, e, m.fifths, m.minor);
-    line_text::put(out, f, 10)
+    line_text::put(out, f, b'\n')
 }
 
 // A bar's line: number, start, length, and what its mark says: meter, tempo, key.
@@ -119,7 +116,7 @@ pub fn put_part(out: &mut [u8], at: usize, part: u64, bars: u64) -> usize
     let b = line_text::put_decimal(out, a, part);
     let c = line_text::put_text(out, b, b" bars ");
     let d = line_text::put_decimal(out, c, bars);
-    line_text::put(out, d, 10)
+    line_text::put(out, d, b'\n')
 }
 
 // A refusal's line.
@@ -129,5 +126,5 @@ pub fn put_refused(out: &mut [u8], at: usize, number: u64) -> usize
 {
     let a = line_text::put_text(out, at, b"refused ");
     let b = line_text::put_decimal(out, a, number);
-    line_text::put(out, b, 10)
+    line_text::put(out, b, b'\n')
 }

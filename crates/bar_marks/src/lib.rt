@@ -2,13 +2,10 @@
 #![tactic(auto)]
 
 ghost use Rattle.std.specs.Prelude.{◌≤◌, ◌≡◌};
-ghost use Rattle.rules.specs.Lists.{flag};
 ghost use Rattle.bar_marks.specs.Marks.{packed, unpacked};
 
-use basics::wide;
-
 // The figures of the meter and whether it is printed; tempo and fifths + 8, 0 where none is marked; whether the key is minor.
-#[derive(Clone, Copy)]
+#[derive(Clone, Copy, Debug, PartialEq, Eq)]
 pub struct Mark {
     pub upper: u32,
     pub lower: u32,
@@ -18,19 +15,15 @@ pub struct Mark {
     pub minor: bool,
 }
 
-// 1 for true.
-fn flag(b: bool) -> u64
-    ensures { (result ≡ flag b) × (result ≤ 1) }
-{
-    if b { 1 } else { 0 }
-}
-
 // Bits 0 to 7 upper, 8 to 15 lower, 16 printed, 17 to 26 tempo, 27 to 31 fifths + 8, 32 minor.
 pub fn pack(m: Mark) -> u64
     ensures { result ≡ packed m }
 {
-    let meter = wide(m.upper) + wide(m.lower) * 256 + flag(m.printed) * 65536;
-    meter + wide(m.tempo) * 131072 + wide(m.fifths) * 134217728 + flag(m.minor) * 4294967296
+    let meter = u64::from(m.upper) + u64::from(m.lower) * 256 + u64::from(m.printed) * 65536;
+    meter
+        + u64::from(m.tempo) * 131072
+        + u64::from(m.fifths) * 134217728
+        + u64::from(m.minor) * 4294967296
 }
 
 // The fields read back.

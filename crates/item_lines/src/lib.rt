@@ -23,7 +23,7 @@ fn put_key(out: &mut [u8], keys: Keys, key: u64) -> Keys
         let at = line_text::put_decimal(out, keys.at, key);
         return Keys { at, none: false };
     }
-    let a = line_text::put(out, keys.at, 44);
+    let a = line_text::put(out, keys.at, b',');
     let at = line_text::put_decimal(out, a, key);
     Keys { at, none: false }
 }
@@ -49,10 +49,8 @@ fn put_keys(out: &mut [u8], keys: Keys, word: u64, base: u64) -> Keys
         → Keyed t (ks ++ word_keys 64 word base) result.at result.none out.new }
 {
     let mut spot = keys;
-    let mut k: u64 = 0;
-    while k < 64 {
+    for k in 0..64 {
         spot = put_bit(out, spot, word, k, base);
-        k += 1;
     }
     spot
 }
@@ -78,7 +76,7 @@ fn put_letter(out: &mut [u8], at: usize, set: u32, b: u8) -> usize
     if set == 1 {
         return line_text::put(out, at, b);
     }
-    line_text::put(out, at, 45)
+    line_text::put(out, at, b'-')
 }
 
 // ` u` where the item is unpitched, and the line's end.
@@ -89,7 +87,7 @@ fn put_item_end(out: &mut [u8], at: usize, head: u32) -> usize
     if head / 128 % 2 == 1 {
         return line_text::put_text(out, at, b" u\n");
     }
-    line_text::put(out, at, 10)
+    line_text::put(out, at, b'\n')
 }
 
 // Voice, code, dots.
@@ -98,8 +96,8 @@ fn put_value(out: &mut [u8], at: usize, voice: u64, head: u32) -> usize
     ensures { Adds 62 (value_text voice head) at out.old result out.new }
 {
     let a = line_text::put_decimal(out, at, voice);
-    let b = line_text::put_next(out, a, (head % 16) as u64);
-    line_text::put_next(out, b, (head / 16 % 2) as u64)
+    let b = line_text::put_next(out, a, u64::from(head % 16));
+    line_text::put_next(out, b, u64::from(head / 16 % 2))
 }
 
 // `e` tie-in, `s` tie-out, between spaces.
@@ -107,10 +105,10 @@ fn put_ties(out: &mut [u8], at: usize, head: u32) -> usize
     requires { at + 4 ≤ length out.old }
     ensures { Adds 4 (ties_text head) at out.old result out.new }
 {
-    let a = line_text::put(out, at, 32);
-    let b = put_letter(out, a, head / 32 % 2, 101);
-    let c = put_letter(out, b, head / 64 % 2, 115);
-    line_text::put(out, c, 32)
+    let a = line_text::put(out, at, b' ');
+    let b = put_letter(out, a, head / 32 % 2, b'e');
+    let c = put_letter(out, b, head / 64 % 2, b's');
+    line_text::put(out, c, b' ')
 }
 
 // An item's line: voice, code, dots, ties, keys.

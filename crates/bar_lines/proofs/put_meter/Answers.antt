@@ -8,7 +8,9 @@ pub returns-then-printed : goal.returns-then-printed
 unfolding meter_text
 returns-then-printed c =
     rw c.if-printed.true
-    (adds_both c.put_decimal-a.ensures (adds_both c.put-b.ensures c.put_decimal.ensures))
+    (adds_both
+    (rw c.from.ensures at c.put_decimal-a.ensures)
+    (adds_both c.put-b.ensures (rw c.from-then-printed.ensures at c.put_decimal.ensures)))
 
 pub returns : goal.returns
 unfolding meter_text

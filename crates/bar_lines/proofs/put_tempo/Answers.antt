@@ -11,4 +11,4 @@ returns-then-tempo-eq0 c = rw (eq-eqb _ _ c.if-tempo-eq0.true) (adds_most (omega
 
 pub returns : goal.returns
 unfolding tempo_text
-returns c = rw (ne_eqb _ _ c.if-tempo-eq0.false) c.put_decimal.ensures
+returns c = rw (ne_eqb _ _ c.if-tempo-eq0.false) (rw c.from.ensures at c.put_decimal.ensures)

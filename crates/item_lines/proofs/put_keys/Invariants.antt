@@ -4,13 +4,10 @@ use Prim.Native.Nat.{ℕ}
 use mathlib.Core.List.{◌++◌, List}
 use lib.ListN.{length}
 use mathlib.Core.Path.{◌≡◌}
-use Prim.Native.Nat.{◌+◌, ◌-◌, ◌*◌, ◌≤◌}
+use Prim.Native.Nat.{◌+◌, ◌*◌, ◌≤◌}
 use Rattle.item_lines.specs.Items.{word_keys}
 use Rattle.item_lines.proofs.put_keys.Given as goal
 
 abbrev pub invariant-loop-k : goal.invariant-loop-k
-invariant-loop-k l = (l.k ≤ 64) × (length l.out ≡ length l.initial.out) × (l.spot.at ≤ l.initial.spot.at + 21 * l.k)
+invariant-loop-k l = (length l.out ≡ length l.initial.out) × (l.spot.at ≤ l.initial.spot.at + 21 * l.k)
     × ((t ks : List ℕ) → Keyed t ks l.initial.spot.at l.initial.spot.none l.initial.out → Keyed t (ks ++ word_keys l.k l.word l.base) l.spot.at l.spot.none l.out)
-
-abbrev pub decreases-loop-k : goal.decreases-loop-k
-decreases-loop-k l = 64 - l.k

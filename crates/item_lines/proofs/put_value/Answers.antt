@@ -6,4 +6,4 @@ use Rattle.item_lines.proofs.put_value.Goals as goal
 pub returns : goal.returns
 unfolding value_text
 returns c =
-    (adds_both (adds_both c.put_decimal-a.ensures c.put_next-b.ensures) c.put_next.ensures)
+    rw (c.from.ensures, c.from-2.ensures) at (adds_both (adds_both c.put_decimal-a.ensures c.put_next-b.ensures) c.put_next.ensures)
