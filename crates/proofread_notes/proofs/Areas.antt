@@ -1,16 +1,14 @@
 -- The notes of a work area that keeps its first two columns are the same.
-use Prim.Native.Nat.{ℕ, ◌+◌, ◌*◌, ◌^◌, ◌≤◌, ◌<◌}
+use Prim.Native.Nat.{ℕ, ◌+◌, ◌^◌, ◌≤◌, ◌<◌}
 use mathlib.Core.List.{List}
 use mathlib.Core.Path.{◌≡◌, refl, sym, ap, subst, ◌∙◌}
 use mathlib.Core.Logic.{inl, inr}
 use native.Mathlib.Omega.{arith}
-use lib.ListN.{length, get_or, set, length-set}
-use lib.Seq.{get_or-set_same, get_or-set_other}
 use Rattle.rules.specs.RawNotes.{RawNote}
 use Rattle.rules.specs.Grid.{snapped}
 use Rattle.laws.specs.NoteWords.{InRange}
 use Rattle.laws.proofs.Order.{by_eq}
-use Rattle.proofread_notes.specs.Columns.{raw_at, snap_at, notes_at, Readable, Same, Before, Cleared}
+use Rattle.proofread_notes.specs.Columns.{raw_at, snap_at, notes_at, Readable, Same, Before}
 use Rattle.proofread_notes.proofs.Rests.{rest_same}
 
 pub same_self : (n : ℕ) (w : List ℕ) → Same n w w
@@ -53,31 +51,3 @@ before_later l b = record { earlier = λ j h. omega (arith, b.earlier j h) }
 pub before_more : {g n : ℕ} {w : List ℕ} {k s : ℕ} → Before g n w k s → (snap_at g n w k).start < s → Before g n w (k + 1) s
 before_more {g} {n} {w} {k} {s} b h =
     record { earlier = λ j l. elim (by_eq j k) [ inl e ↦ subst (λ (x : ℕ). (snap_at g n w x).start < s) (sym e) h | inr e ↦ b.earlier j (omega arith) ] }
-
--- ---- no mark
-
--- the marks of the first i notes are cleared
-pub record Clearing (n m i : ℕ) (w w' : List ℕ) : Type 0 where
-  pub within : i ≤ m
-  pub cleared : Cleared n i w w'
-
-pub clear_more : {n m i : ℕ} {w w' : List ℕ} → i < m → m ≤ n → 16 * n ≤ length w → Clearing n m i w w' → Clearing n m (i + 1) w (set w' (2 * n + i) 0)
-clear_more {n} {m} {i} {w} {w'} h l area k =
-    let kept = k.cleared.same.kept in
-    let other : (j : ℕ) → (j ≡ 2 * n + i → ⊥) → get_or (set w' (2 * n + i) 0) j 0 ≡ get_or w' j 0 = λ j o. get_or-set_other w' (2 * n + i) j 0 0 o in
-    record {
-      within = omega arith;
-      cleared =
-          record {
-            same = same_then k.cleared.same (record { kept = simp length-set; notes = λ j o. other j (λ e. omega arith) });
-            marks =
-                λ j o.
-                elim (by_eq j i) [
-                  | inl e ↦ rw e (get_or-set_same w' (2 * n + i) 0 0 (omega arith))
-                  | inr e ↦ other (2 * n + j) (λ q. e (omega arith)) ∙ k.cleared.marks j (omega arith)
-                ];
-          };
-    }
-
-pub clear_end : {n m i : ℕ} {w w' : List ℕ} → Clearing n m i w w' → m ≤ i → Cleared n m w w'
-clear_end k h = let within = k.within in record { same = k.cleared.same; marks = λ j o. k.cleared.marks j (omega arith) }

@@ -60,8 +60,7 @@ fn end_of(work: &[u64], n: usize, m: usize, g: u64, i: usize) -> u64
     ensures { result ≡ (snap_at g n work.now i).end }
 {
     let least = start_of(work, n, m, g, i) + g;
-    let end = snap_to(g, work[i] / 16);
-    if end < least { least } else { end }
+    snap_to(g, work[i] / 16).max(least)
 }
 
 // Whether two words of keys have a key.
@@ -76,18 +75,12 @@ fn has_key(low: u64, high: u64, key: u64) -> bool
     }
 }
 
-fn either(a: bool, b: bool) -> bool
-    ensures { result ≡ (a || b) }
-{
-    if a { true } else { b }
-}
-
 // The group with one note more, of this key; `ends` says whether it ends where the chord does.
 fn with_note(x: Group, key: u64, ends: bool) -> Group
     requires { key < 128 }
     ensures { WithNote x key ends result }
 {
-    let ended = either(x.ended, ends);
+    let ended = x.ended || ends;
     if key < 64 {
         return Group {
             low: x.low | 1 << key,
@@ -122,14 +115,12 @@ fn skip(work: &[u64], n: usize, m: usize, g: u64, from: usize, start: u64) -> us
     requires { Readable g n m work.now × (from ≤ m) × Before g n work.now from start }
     ensures { Skipped g n m work.now start result }
 {
-    let mut i = from;
-    while i < m {
+    for i in from..m {
         if start <= start_of(work, n, m, g, i) {
             return i;
         }
-        i += 1;
     }
-    i
+    m
 }
 
 // Takes all notes of the chord's start.
@@ -142,13 +133,11 @@ fn scan(work: &mut [u64], n: usize, m: usize, g: u64, from: usize, c: Chord) -> 
         high: 0,
         ended: false,
     };
-    let mut i = from;
-    while i < m {
+    for i in from..m {
         if start_of(work, n, m, g, i) != c.start {
             return x;
         }
         x = take_note(work, n, m, g, i, c, x);
-        i += 1;
     }
     x
 }
@@ -165,28 +154,16 @@ fn keys_meant(c: Chord, x: Group, e: u64) -> bool
     ensures { result ≡ keys_fit? c x e }
 {
     if c.start < e {
-        if covers(c.low, x.low) {
-            return covers(c.high, x.high);
-        }
-        return false;
+        return covers(c.low, x.low) && covers(c.high, x.high);
     }
-    if c.low == 0 {
-        return c.high == 0;
-    }
-    false
+    c.low == 0 && c.high == 0
 }
 
 // Whether the chord ends with a note of its start, at the next chord or at the last bar's end.
 fn end_meant(c: Chord, x: Group, next: u64, e: u64) -> bool
     ensures { result ≡ (x.ended || eqb c.end next || eqb c.end e) }
 {
-    if x.ended {
-        return true;
-    }
-    if c.end == next {
-        return true;
-    }
-    c.end == e
+    x.ended || c.end == next || c.end == e
 }
 
 // Holds a chord against the notes: its keys are theirs, and it ends with one of them, at its voice's next chord, or at the last bar's end.
@@ -223,21 +200,14 @@ pub fn clear_marks(work: &mut [u64], n: usize, m: usize)
     requires { (m ≤ n) × (16 * n ≤ length work.old) }
     ensures { Cleared n m work.old work.new }
 {
-    let mut i = 0;
-    while i < m {
-        work[2 * n + i] = 0;
-        i += 1;
-    }
+    work[2 * n..2 * n + m].fill(0);
 }
 
 // Whether a note of this start and mark is marked, or not before the last bar's end.
 fn found(start: u64, mark: u64, e: u64) -> bool
     ensures { result ≡ (not (ltb start e) || eqb mark 1) }
 {
-    if start < e {
-        return mark == 1;
-    }
-    true
+    e <= start || mark == 1
 }
 
 // Whether each note that starts before the last bar's end is marked.
@@ -245,12 +215,10 @@ pub fn all_found(work: &[u64], n: usize, m: usize, g: u64, e: u64) -> bool
     requires { Readable g n m work.now }
     ensures { result ≡ all_found? g n m e work.now }
 {
-    let mut i = 0;
-    while i < m {
+    for i in 0..m {
         if !found(start_of(work, n, m, g, i), work[2 * n + i], e) {
             return false;
         }
-        i += 1;
     }
     true
 }

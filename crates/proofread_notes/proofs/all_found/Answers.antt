@@ -13,14 +13,14 @@ start_of-requires c = (c.requires, omega arith)
 pub returns-then-not-found : goal.returns-then-not-found
 returns-then-not-found c =
     let l = c.loop-i in
-    every_fails _ _ l.i _ l.invariant c.loop-i-test.true
+    every_fails _ _ l.i _ l.invariant (omega arith)
     (cc)
 
 pub loop-i-preserved : goal.loop-i-preserved
 loop-i-preserved c =
     let l = c.loop-i in
-    every_goes _ _ l.i _ l.invariant c.loop-i-test.true
+    every_goes _ _ l.i _ l.invariant (omega arith)
     (cc)
 
 pub returns : goal.returns
-returns c = sym (every_none _ _ c.loop-i.i c.loop-i-test.false) ∙ c.loop-i.invariant
+returns c = sym (every_none _ _ c.loop-i.i (omega arith)) ∙ c.loop-i.invariant

@@ -8,6 +8,3 @@ use Rattle.proofread_notes.proofs.all_found.Given as goal
 
 abbrev pub invariant-loop-i : goal.invariant-loop-i
 invariant-loop-i l = every (found? l.g l.n l.e l.work) (count l.i (l.m - l.i)) ≡ all_found? l.g l.n l.m l.e l.work
-
-abbrev pub decreases-loop-i : goal.decreases-loop-i
-decreases-loop-i l = l.m - l.i

@@ -15,7 +15,7 @@ shape_of-work-then-start_of-c c = c.loop-i.invariant.same.kept
 
 pub returns-then-start_of-c : goal.returns-then-start_of-c
 returns-then-start_of-c c =
-    scan_stop c.requires.0 c.requires.1 c.loop-i.invariant c.loop-i-test.true
+    scan_stop c.requires.0 c.requires.1 c.loop-i.invariant (omega arith)
     (λ e. c.if-start_of-c.true (c.start_of.ensures.0 ∙ e))
 
 pub take_note-x-requires : goal.take_note-x-requires
@@ -24,11 +24,11 @@ take_note-x-requires c =
 
 pub loop-i-preserved : goal.loop-i-preserved
 loop-i-preserved c =
-    scan_more c.requires.0 c.loop-i.invariant c.loop-i-test.true
+    scan_more c.requires.0 c.loop-i.invariant (omega arith)
     (sym c.start_of.ensures.0 ∙ c.if-start_of-c.false) c.take_note-x.ensures
 
 pub shape_of-work : goal.shape_of-work
 shape_of-work c = c.loop-i.invariant.same.kept
 
 pub returns : goal.returns
-returns c = scan_last c.requires.0 c.loop-i.invariant c.loop-i-test.false
+returns c = scan_last c.requires.0 c.loop-i.invariant (omega arith)
