@@ -2,8 +2,8 @@
 #![tactic(auto)]
 
 ghost use Rattle.std.specs.Prelude.{◌≡◌, ◌&&◌, leb, length, ◌+◌, ◌≤◌, ◌<◌};
-ghost use Rattle.rules.specs.Piece.{kind_of, byte_a, byte_b, well_formed, is_on, is_off, tempo_value};
-ghost use Rattle.track_events.specs.Kinds.{IsKind};
+ghost use Rattle.rules.specs.Piece.{kind_of, is_kind, byte_a, byte_b, well_formed, is_on, is_off, tempo_value};
+ghost use Rattle.track_events.specs.Kinds.{kind_number, IsKind};
 ghost use Rattle.track_events.specs.Track.{IsWord, stretch};
 
 // What an event says, by the number in its word's top byte.
@@ -28,6 +28,14 @@ pub enum Kind {
     Bend = 14,
 }
 
+impl From<Kind> for u32 {
+    ghost from_gives = { λ k n. n ≡ kind_number k };
+
+    fn from(kind: Kind) -> u32 {
+        kind as u32
+    }
+}
+
 // A word's four bytes, from the top: its kind, if it has one, and a, b and c.
 #[derive(Clone, Copy)]
 pub struct Word {
@@ -49,7 +57,7 @@ pub fn take_apart(w: u32) -> Word
     }
 }
 
-// A word's kind, and its bytes a and b alone.
+// A word's kind alone.
 pub fn kind_of(w: u32) -> Option<Kind>
     ensures { IsKind (kind_of w) result }
 {
@@ -72,6 +80,14 @@ pub fn kind_of(w: u32) -> Option<Kind>
     }
 }
 
+// Whether a word is of this kind.
+pub fn is_kind(w: u32, kind: Kind) -> bool
+    ensures { result ≡ is_kind (kind_number kind) w }
+{
+    w / 16777216 == u32::from(kind)
+}
+
+// A word's bytes a and b alone.
 pub fn byte_a(w: u32) -> u32
     ensures { result ≡ byte_a w }
 {
