@@ -268,15 +268,13 @@ pub fn take_items(
     ensures { TakesAll g n m e p (take count (drop first (read_items heads.now keys.now))) work.old work.new v result }
 {
     let mut r = v;
-    let mut i = 0;
-    while i < count {
+    for i in 0..count {
         let k = first + i;
         let item = item_of(heads[k], keys[2 * k], keys[2 * k + 1]);
         r = take_item(work, n, m, g, e, p, r, item);
         if !r.ok {
             return r;
         }
-        i += 1;
     }
     r
 }
