@@ -1,79 +1,57 @@
 -- What the code chooses from starts and ends is what the rules choose from the voices.
-use Prim.Native.Nat.{ℕ, ◌+◌, ◌≤◌, ◌<◌}
-use mathlib.Core.Bool.{Bool, true, false, true≢false}
+use Prim.Native.Nat.{ℕ, ◌≤◌, ◌<◌}
+use mathlib.Core.Bool.{Bool, false, true≢false, false≢true}
+use mathlib.Core.Logic.{inl, inr}
 use mathlib.Core.List.{List, [], ◌∷◌, map}
 use mathlib.Core.Path.{◌≡◌, refl, sym, ap, ◌∙◌}
-use native.Mathlib.Nat.{le_refl}
 use native.Mathlib.Omega.{arith}
-use borrow.Author.Count.{below_more}
-use borrow.Author.Tests.{le-leb, lt-leb}
-use lib.Dec.{eqb, leb}
+use borrow.Author.Tests.{le-leb, lt-leb, lt-ltb, le-ltb, ltb-true, ltb-false}
+use lib.Dec.{eqb, leb, ltb}
 use lib.ListN.{length, get_or, length-map}
+use Rattle.std.specs.List as library
+use Rattle.std.specs.List.{position_or_len, IsFirstBest}
+use Rattle.std.specs.Prelude.{Some, None, unwrap_or, is_some}
 use Rattle.rules.specs.Lists.{any, every, position}
 use Rattle.rules.specs.Voices.{Chord, Voice, is_free, starts_with, voice_end, ends_earliest, free, together, cut, choose}
+use Rattle.laws.proofs.Order.{by_bool, by_lt}
 use Rattle.laws.proofs.Lists.{All-imp, All-all, any_none}
 use Rattle.voices.specs.Placing.{Lasts, voice_start, Known}
-use Rattle.laws.proofs.Tests.{Scanned, scanned_on, scanned_at, scanned_end}
 use Rattle.laws.proofs.Tests.{position_at, position_found, position_lost, position_agree, position_map, every_passes, every_fails, every_map}
 
--- ---- the first of four voices that passes a test
+-- ---- the first that passes a test, as the library gives it and as the rules do
+module _ {A : Type 0} (f : A → Bool) where
+  first_place : (xs : List A) → position_or_len f xs ≡ position f xs
+  unfolding position
+  first_place [] = refl
+  first_place (x ∷ xs) = elim (by_bool (f x)) [ inl t ↦ rw t | inr t ↦ rw t (omega (arith, first_place xs)) ]
 
--- none of the first v passes
-module _ {f : ℕ → Bool} {l : List ℕ} {v : ℕ} (inv : length l ≡ 4 → Scanned f l v) where
-  pub first_on : v < 4 → f (get_or l v 0) ≡ false → length l ≡ 4 → Scanned f l (v + 1)
-  first_on h e four = scanned_on (inv four) (omega arith) e
+  first_some : (xs : List A) {v : ℕ} → library.position f xs ≡ Some v → (v ≡ position f xs) × (v < length xs)
+  first_some xs {v} e =
+      elim (by_lt (position_or_len f xs) (length xs)) [
+        | inl h ↦
+            let same : Some (position_or_len f xs) ≡ Some v = rw (lt-ltb _ _ h) at e in
+            let found : position_or_len f xs ≡ v = ap (λ o. unwrap_or o 0) same in
+            (sym found ∙ first_place xs, omega (arith, found))
+        | inr h ↦ let none : None ≡ Some v = rw (le-ltb _ _ h) at e in absurd (false≢true (ap is_some none))
+      ]
 
-  pub first_at : v < 4 → f (get_or l v 0) ≡ true → length l ≡ 4 → v ≡ position f l
-  first_at h t four = scanned_at (inv four) (omega arith) t
-
-  pub first_none : 4 ≤ v → length l ≡ 4 → 4 ≡ position f l
-  first_none h four = sym four ∙ scanned_end (inv four) (omega arith)
+  first_none : (xs : List A) → library.position f xs ≡ None → length xs ≤ position f xs
+  first_none xs e =
+      elim (by_lt (position_or_len f xs) (length xs)) [
+        | inl h ↦ let some : Some (position_or_len f xs) ≡ None = rw (lt-ltb _ _ h) at e in absurd (true≢false (ap is_some some))
+        | inr h ↦ omega (arith, first_place xs)
+      ]
 
 -- ---- the earliest end
-
--- of the first v ends, the one at best is the first of the lowest
-pub record Best (ends : List ℕ) (best v : ℕ) : Type 0 where
-  pub before : best < v
-  pub within : v ≤ 4
-  pub lowest : (u : ℕ) → u < v → get_or ends best 0 ≤ get_or ends u 0
-  pub first : (u : ℕ) → u < best → get_or ends best 0 < get_or ends u 0
-
-pub best_first : (ends : List ℕ) → Best ends 0 1
-best_first ends =
-    record {
-      before = omega arith;
-      within = omega arith;
-      lowest = λ u l. let e : u ≡ 0 = omega arith in rw e (le_refl (get_or ends 0 0));
-      first = λ u l. absurd (omega arith);
-    }
-
-module _ {ends : List ℕ} {best v : ℕ} (b : Best ends best v) (h : v < 4) where
-  pub best_new : get_or ends v 0 < get_or ends best 0 → Best ends v (v + 1)
-  best_new l =
-      record {
-        before = omega arith;
-        within = omega arith;
-        lowest = below_more (λ u. get_or ends v 0 ≤ get_or ends u 0) v (λ u k. omega (arith, b.lowest u k)) (le_refl (get_or ends v 0));
-        first = λ u k. omega (arith, b.lowest u k);
-      }
-
-  pub best_old : get_or ends best 0 ≤ get_or ends v 0 → Best ends best (v + 1)
-  best_old l =
-      let before = b.before in
-      record {
-        before = omega arith;
-        within = omega arith;
-        lowest = below_more (λ u. get_or ends best 0 ≤ get_or ends u 0) v b.lowest l;
-        first = b.first;
-      }
-
-pub best_is : {ends : List ℕ} {best v : ℕ} → length ends ≡ 4 → 4 ≤ v → Best ends best v → best ≡ position (λ e. every (leb e) ends) ends
-best_is {ends} {best} {v} four h b =
-    let before = b.before in
-    let within = b.within in
+best_is : (ends : List ℕ) {best : ℕ} → length ends ≡ 4 → IsFirstBest ltb ends 4 best → best ≡ position (λ e. every (leb e) ends) ends
+best_is ends {best} four b =
+    let lowest = b.1 in
+    let first = b.2 in
+    let inside : best < 4 = b.0 in
     sym (position_at (λ e. every (leb e) ends) ends best 0 (omega arith)
-    (λ u l. every_fails (leb (get_or ends u 0)) ends 0 best (omega arith) (lt-leb (get_or ends u 0) (get_or ends best 0) (b.first u l)))
-    (every_passes (leb (get_or ends best 0)) ends 0 (λ u l. le-leb (get_or ends best 0) (get_or ends u 0) (b.lowest u (omega arith)))))
+    (λ u l. every_fails (leb (get_or ends u 0)) ends 0 best (omega arith) (lt-leb (get_or ends u 0) (get_or ends best 0) (ltb-true _ _ (first u 0 l))))
+    (every_passes (leb (get_or ends best 0)) ends 0
+    (λ u l. le-leb (get_or ends best 0) (get_or ends u 0) (ltb-false _ _ (lowest u 0 (omega arith))))))
 
 -- ---- the voices
 module _ (c : Chord) where
@@ -126,27 +104,25 @@ module _ (c : Chord) where
 
 -- ---- by what is known of the voices
 module _ {l : Lasts} {vs : List Voice} {start : ℕ} (c : Chord) (e : c.start ≡ start) (k : Known l vs) where
-  four_starts : length l.starts ≡ 4
-  four_starts = ap length k.starts ∙ length-map vs voice_start ∙ k.four
-
   four_ends : length l.ends ≡ 4
   four_ends = ap length k.ends ∙ length-map vs voice_end ∙ k.four
 
-  pub known_free : {v : ℕ} → (length l.ends ≡ 4 → v ≡ position (λ x. leb x start) l.ends) → v < 4 → free v ≡ choose c vs
-  known_free p h = let four = k.four in chosen_free c vs (rw (← e, k.ends) at (p four_ends)) (omega arith)
+  pub known_free : {v : ℕ} → library.position (λ x. leb x start) l.ends ≡ Some v → free v ≡ choose c vs
+  known_free p =
+      let found = rw (← e, k.ends) at (first_some (λ x. leb x start) l.ends p) in
+      chosen_free c vs found.0 (omega (arith, found.1, length-map vs voice_end))
 
-  pub known_together : {u v : ℕ} → (length l.ends ≡ 4 → u ≡ position (λ x. leb x start) l.ends) → 4 ≤ u
-      → (length l.starts ≡ 4 → v ≡ position (λ x. eqb x start) l.starts) → v < 4 → together v ≡ choose c vs
-  known_together q g p h =
-      let four = k.four in
-      let lost = rw (← e, k.ends) at (q four_ends) in
-      chosen_together c vs (omega arith) (rw (← e, k.starts) at (p four_starts)) (omega arith)
+  pub known_together : {v : ℕ} → library.position (λ x. leb x start) l.ends ≡ None → library.position (λ x. eqb x start) l.starts ≡ Some v
+      → together v ≡ choose c vs
+  known_together q p =
+      let lost = rw (← e, k.ends) at (first_none (λ x. leb x start) l.ends q) in
+      let found = rw (← e, k.starts) at (first_some (λ x. eqb x start) l.starts p) in
+      chosen_together c vs (omega (arith, lost, length-map vs voice_end)) found.0 (omega (arith, found.1, length-map vs voice_start))
 
-  pub known_cut : {t u v : ℕ} → (length l.ends ≡ 4 → t ≡ position (λ x. leb x start) l.ends) → 4 ≤ t
-      → (length l.starts ≡ 4 → u ≡ position (λ x. eqb x start) l.starts) → 4 ≤ u
-      → (length l.ends ≡ 4 → v ≡ position (λ x. every (leb x) l.ends) l.ends) → cut v ≡ choose c vs
-  known_cut q g q' g' p =
-      let four = k.four in
-      let lost = rw (← e, k.ends) at (q four_ends) in
-      let lost' = rw (← e, k.starts) at (q' four_starts) in
-      chosen_cut c vs (omega arith) (omega arith) (rw k.ends at (p four_ends))
+  pub known_cut : {v : ℕ} → library.position (λ x. leb x start) l.ends ≡ None → library.position (λ x. eqb x start) l.starts ≡ None
+      → IsFirstBest ltb l.ends 4 v → cut v ≡ choose c vs
+  known_cut q q' b =
+      let lost = rw (← e, k.ends) at (first_none (λ x. leb x start) l.ends q) in
+      let lost' = rw (← e, k.starts) at (first_none (λ x. eqb x start) l.starts q') in
+      chosen_cut c vs (omega (arith, lost, length-map vs voice_end)) (omega (arith, lost', length-map vs voice_start))
+      (rw k.ends at (best_is l.ends four_ends b))

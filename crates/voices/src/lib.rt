@@ -1,8 +1,9 @@
 // A part's chords spread over four voices, in one lent work area, whose columns the crate chords lays out.
 #![tactic(auto)]
 
-ghost use Rattle.std.specs.Prelude.{ℕ, ◌+◌, ◌-◌, ◌*◌, ◌^◌, ◌≤◌, ◌<◌, List, ◌≡◌, leb, eqb, length, get_or};
-ghost use Rattle.rules.specs.Lists.{every, position, All};
+ghost use Rattle.std.specs.Prelude.{ℕ, ◌+◌, ◌-◌, ◌*◌, ◌^◌, ◌≤◌, ◌<◌, List, ◌≡◌, leb, eqb, nat_lt, length, get_or};
+ghost use Rattle.std.specs.List.{position, IsFirstBest};
+ghost use Rattle.rules.specs.Lists.{All};
 ghost use Rattle.rules.specs.Piece.{largest_size};
 ghost use Rattle.rules.specs.RawNotes.{RawNote};
 ghost use Rattle.rules.specs.Voices.{Chord, Voice, choose, voices};
@@ -30,47 +31,29 @@ pub enum Choice {
 
 // ---- choosing
 
-// (The contracts ask that four elements lie behind a `&[u64; 4]`: a proof is not told that.)
-
-// The first voice that ends at start or before; 4 if none does.
-fn first_free(ends: &[u64; 4], start: u64) -> usize
-    ensures { length ends.now ≡ 4 → result ≡ position (λ (e : ℕ). leb e start) ends.now }
+// The first voice that ends at start or before.
+fn first_free(ends: &[u64; 4], start: u64) -> Option<usize>
+    ensures { result ≡ position (λ (e : ℕ). leb e start) ends.now }
 {
-    let mut v = 0;
-    while v < 4 {
-        if ends[v] <= start {
-            return v;
-        }
-        v += 1;
-    }
-    4
+    ends.iter().position(|end| *end <= start)
 }
 
-// The first voice whose last chord has the start; 4 if none has.
-fn first_together(starts: &[u64; 4], start: u64) -> usize
-    ensures { length starts.now ≡ 4 → result ≡ position (λ (s : ℕ). eqb s start) starts.now }
+// The first voice whose last chord has the start.
+fn first_together(starts: &[u64; 4], start: u64) -> Option<usize>
+    ensures { result ≡ position (λ (s : ℕ). eqb s start) starts.now }
 {
-    let mut v = 0;
-    while v < 4 {
-        if starts[v] == start {
-            return v;
-        }
-        v += 1;
-    }
-    4
+    starts.iter().position(|other| *other == start)
 }
 
 // The voice that ends earliest, the lowest of several.
 fn earliest(ends: &[u64; 4]) -> usize
-    ensures { length ends.now ≡ 4 → result ≡ position (λ (e : ℕ). every (leb e) ends.now) ends.now }
+    ensures { IsFirstBest nat_lt ends.now 4 result }
 {
     let mut best = 0;
-    let mut v = 1;
-    while v < 4 {
+    for v in 1..4 {
         if ends[v] < ends[best] {
             best = v;
         }
-        v += 1;
     }
     best
 }
@@ -82,13 +65,11 @@ fn choose(starts: &[u64; 4], ends: &[u64; 4], start: u64) -> Choice
         → Known (lasts_of starts.now ends.now lens) vs
         → as_choice result ≡ choose c vs }
 {
-    let free = first_free(ends, start);
-    if free < 4 {
-        return Choice::Free(free);
+    if let Some(v) = first_free(ends, start) {
+        return Choice::Free(v);
     }
-    let together = first_together(starts, start);
-    if together < 4 {
-        return Choice::Together(together);
+    if let Some(v) = first_together(starts, start) {
+        return Choice::Together(v);
     }
     Choice::Cut(earliest(ends))
 }
@@ -203,10 +184,8 @@ fn place_chords(work: &mut [u64], n: usize, m: usize) -> Voices
     let mut starts = [0u64; 4];
     let mut ends = [0u64; 4];
     let mut lens = [0usize; 4];
-    let mut k = 0;
-    while k < m {
+    for k in 0..m {
         place_chord(work, n, k, &mut starts, &mut ends, &mut lens);
-        k += 1;
     }
     Voices { lens }
 }

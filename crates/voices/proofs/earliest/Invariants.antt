@@ -1,10 +1,7 @@
 -- `earliest` finds the earliest end. The invariant: of the first v ends, the one at best is the first of the lowest.
-use Prim.Native.Nat.{◌-◌}
-use Rattle.voices.proofs.Choosing.{Best}
+use Rattle.std.proofs.Common.{nat_lt}
+use Rattle.std.specs.List.{IsFirstBest}
 use Rattle.voices.proofs.earliest.Given as goal
 
 abbrev pub invariant-loop-v : goal.invariant-loop-v
-invariant-loop-v l = Best l.ends l.best l.v
-
-abbrev pub decreases-loop-v : goal.decreases-loop-v
-decreases-loop-v l = 4 - l.v
+invariant-loop-v l = IsFirstBest nat_lt l.ends l.v l.best
