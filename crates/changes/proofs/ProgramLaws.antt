@@ -1,16 +1,15 @@
 -- A part's head is its words' first program change: deltas play no part in it.
 use Prim.Native.Nat.{ℕ, suc, ◌+◌, ◌≤◌, ◌<◌}
-use mathlib.Core.Bool.{cond}
+use mathlib.Core.Bool.{true, false, cond}
 use mathlib.Core.List.{List, [], ◌∷◌}
 use mathlib.Core.Logic.{inl, inr}
 use mathlib.Core.Path.{◌≡◌, refl, sym, ap, ◌∙◌}
 use native.Mathlib.Numerals.{add-one}
 use native.Mathlib.Omega.{arith}
-use borrow.Author.Tests.{ne_eqb}
 use lib.ListN.{length, get_or, drop, drop_of_length-le}
 use lib.Seq.{drop-cons}
 use Rattle.rules.specs.Lists.{keep}
-use Rattle.rules.specs.Piece.{timed, kind_of, is_kind, byte_a, byte_b}
+use Rattle.rules.specs.Piece.{timed, is_kind, byte_a, byte_b}
 use Rattle.rules.specs.Changes as rules
 use Rattle.rules.specs.Changes.{part_head}
 use Rattle.laws.proofs.Order.{by_bool}
@@ -38,14 +37,14 @@ program_is ws r c p =
     }
 
 module _ (ws : List ℕ) (i : ℕ) where
-  pub program_here : i < length ws → kind_of (get_or ws i 0) ≡ 12
+  pub program_here : i < length ws → is_kind 12 (get_or ws i 0) ≡ true
       → program_in (drop i ws) ≡ record { channel = byte_a (get_or ws i 0); program = byte_b (get_or ws i 0) }
   unfolding program_in
   program_here h k = rw (drop-cons ws i 0 h) (rw k)
 
-  pub program_on : i < length ws → (kind_of (get_or ws i 0) ≡ 12 → ⊥) → program_in (drop i ws) ≡ program_in (drop (i + 1) ws)
+  pub program_on : i < length ws → is_kind 12 (get_or ws i 0) ≡ false → program_in (drop i ws) ≡ program_in (drop (i + 1) ws)
   unfolding program_in
-  program_on h k = rw (drop-cons ws i 0 h) (rw (ne_eqb _ _ k) (rw add-one))
+  program_on h k = rw (drop-cons ws i 0 h) (rw k (rw add-one))
 
   pub program_none : length ws ≤ i → program_in (drop i ws) ≡ record { channel = 0; program = 0 }
   unfolding program_in

@@ -6,17 +6,24 @@ ghost use Rattle.rules.specs.Piece.{byte_b, lower_figure, signed_fifths, well_fo
 ghost use Rattle.rules.specs.Changes.{tempo_of, clamp_fifths, head_in};
 ghost use Rattle.track_events.specs.Track.{Track, events_of};
 ghost use Rattle.changes.specs.Heads.{HeadIs, PartHeadIs};
-ghost use Rattle.changes.specs.Reads.{nothing_read, took_tempo, took_meter, took_key, took, head_read};
+ghost use Rattle.changes.specs.Reads.{tempo_in, meter_in, key_in, took, head_read};
 
-// The head of a piece. Where there is no key, fifths is 0 and minor false.
+use track_events::Kind;
+
+// A key: its fifths are -7 to 7.
+#[derive(Clone, Copy)]
+pub struct Key {
+    pub fifths: i32,
+    pub minor: bool,
+}
+
+// The head of a piece.
 #[derive(Clone, Copy)]
 pub struct Head {
     pub tempo: u32,
     pub upper: u32,
     pub lower: u32,
-    pub has_key: bool,
-    pub fifths: i32,
-    pub minor: bool,
+    pub key: Option<Key>,
 }
 
 // The head of a part.
@@ -67,101 +74,86 @@ pub fn fifths_of(w: u32) -> i32
     a as i32 - 256
 }
 
-// What is read of the head so far; the flags say what is read: a tempo, a meter, a key.
+// The figures of a meter.
 #[derive(Clone, Copy)]
-struct Reading {
-    tempo: u32,
+struct Meter {
     upper: u32,
     lower: u32,
-    fifths: i32,
-    minor: bool,
-    paced: bool,
-    metered: bool,
-    keyed: bool,
+}
+
+// The tempo of a tempo's word; a value of 0 gives none.
+fn tempo_in(w: u32) -> Option<u32>
+    ensures { result ≡ tempo_in w }
+{
+    let value = track_events::tempo_value(w);
+    if value == 0 {
+        return None;
+    }
+    Some(tempo_of(value))
+}
+
+// The meter of a meter's word.
+fn meter_in(w: u32) -> Meter
+    requires { byte_b w < 32 }
+    ensures { result ≡ meter_in w }
+{
+    Meter {
+        upper: track_events::byte_a(w),
+        lower: lower_of(w),
+    }
+}
+
+// The key of a key's word.
+fn key_in(w: u32) -> Key
+    ensures { result ≡ key_in w }
+{
+    Key {
+        fifths: fifths_of(w),
+        minor: track_events::byte_b(w) == 1,
+    }
+}
+
+// What is read of the head so far.
+#[derive(Clone, Copy)]
+struct Reading {
+    tempo: Option<u32>,
+    meter: Option<Meter>,
+    key: Option<Key>,
 }
 
 impl Reading {
-    fn new() -> Self
-        ensures { result ≡ nothing_read }
-    {
-        Self {
-            tempo: 120,
-            upper: 4,
-            lower: 4,
-            fifths: 0,
-            minor: false,
-            paced: false,
-            metered: false,
-            keyed: false,
-        }
-    }
+    const NOTHING: Self = Self {
+        tempo: None,
+        meter: None,
+        key: None,
+    };
 
-    fn take_tempo(mut self, word: u32) -> Self
-        ensures { result ≡ took_tempo self word }
-    {
-        let value = track_events::tempo_value(word);
-        if self.paced {
-            return self;
-        }
-        if value == 0 {
-            return self;
-        }
-        self.tempo = tempo_of(value);
-        self.paced = true;
-        self
-    }
-
-    fn take_meter(mut self, word: u32) -> Self
-        requires { byte_b word < 32 }
-        ensures { result ≡ took_meter self word }
-    {
-        if self.metered {
-            return self;
-        }
-        let x = track_events::take_apart(word);
-        self.upper = x.a;
-        self.lower = lower_of(word);
-        self.metered = true;
-        self
-    }
-
-    fn take_key(mut self, word: u32) -> Self
-        ensures { result ≡ took_key self word }
-    {
-        if self.keyed {
-            return self;
-        }
-        let x = track_events::take_apart(word);
-        self.fifths = fifths_of(word);
-        self.minor = x.b == 1;
-        self.keyed = true;
-        self
-    }
-
-    // One event of tick 0.
-    fn take(self, word: u32) -> Self
+    // One event of tick 0: the first change of each sort stands.
+    fn take(mut self, word: u32) -> Self
         requires { well_formed word ≡ true }
         ensures { result ≡ took self word }
     {
-        let k = track_events::kind_of(word);
-        match k {
-            2 => self.take_tempo(word),
-            3 => self.take_meter(word),
-            4 => self.take_key(word),
-            _ => self,
+        let Some(kind) = track_events::kind_of(word) else {
+            return self;
+        };
+        match kind {
+            Kind::Tempo => self.tempo = self.tempo.or(tempo_in(word)),
+            Kind::Meter => self.meter = self.meter.or(Some(meter_in(word))),
+            Kind::Key => self.key = self.key.or(Some(key_in(word))),
+            _ => {}
         }
+        self
     }
 
     fn done(self) -> Head
         ensures { result ≡ head_read self }
     {
+        let meter = self.meter.unwrap_or(Meter { upper: 4, lower: 4 });
         Head {
-            tempo: self.tempo,
-            upper: self.upper,
-            lower: self.lower,
-            has_key: self.keyed,
-            fifths: self.fifths,
-            minor: self.minor,
+            tempo: self.tempo.unwrap_or(120),
+            upper: meter.upper,
+            lower: meter.lower,
+            key: self.key,
         }
     }
 }
@@ -171,14 +163,12 @@ pub fn read_head(deltas: &[u32], words: &[u32]) -> Head
     requires { Track deltas.now words.now }
     ensures { HeadIs (head_in (events_of deltas.now words.now)) result }
 {
-    let mut read = Reading::new();
-    let mut i = 0;
-    while i < deltas.len() {
+    let mut read = Reading::NOTHING;
+    for i in 0..deltas.len() {
         if 0 < deltas[i] {
             return read.done();
         }
         read = read.take(words[i]);
-        i += 1;
     }
     read.done()
 }
@@ -187,16 +177,13 @@ pub fn read_head(deltas: &[u32], words: &[u32]) -> Head
 pub fn extract_program(words: &[u32]) -> PartHead
     ensures { PartHeadIs words.now result }
 {
-    let mut i = 0;
-    while i < words.len() {
-        let x = track_events::take_apart(words[i]);
-        if x.kind == 12 {
+    for w in words {
+        if track_events::is_kind(*w, Kind::Program) {
             return PartHead {
-                channel: x.a,
-                program: x.b,
+                channel: track_events::byte_a(*w),
+                program: track_events::byte_b(*w),
             };
         }
-        i += 1;
     }
     PartHead {
         channel: 0,

@@ -1,27 +1,24 @@
 use mathlib.Core.Path.{sym, ap, ◌∙◌}
-use native.Mathlib.Omega.{arith}
 use Rattle.rules.specs.Changes as rules
 use Rattle.changes.proofs.ProgramLaws.{program_is, program_here, program_on, program_none}
 use Rattle.changes.proofs.extract_program.Goals as goal
 
-pub returns-then-x-eq12 : goal.returns-then-x-eq12
-returns-then-x-eq12 c =
-    let at = c.loop-i in
+pub returns-then-is_kind : goal.returns-then-is_kind
+returns-then-is_kind c =
+    let at = c.loop-w in
     let ws = c.args.words.now in
-    let is = c.take_apart-x.ensures in
-    let first = sym (program_here ws at.i c.loop-i-test.true (sym is.kind ∙ c.if-x-eq12.true)) ∙ at.invariant.1 in
-    program_is ws _ (is.a ∙ ap (λ (x : rules.PartHead). x.channel) first) (is.b ∙ ap (λ (x : rules.PartHead). x.program) first)
+    let first = sym (program_here ws at.w-index c.loop-w-test.true (sym c.is_kind.ensures ∙ c.if-is_kind.true)) ∙ at.invariant in
+    program_is ws _ (c.byte_a.ensures ∙ ap (λ (x : rules.PartHead). x.channel) first)
+    (c.byte_b.ensures ∙ ap (λ (x : rules.PartHead). x.program) first)
 
-pub loop-i-preserved : goal.loop-i-preserved
-loop-i-preserved c =
-    let at = c.loop-i in
-    let ws = c.args.words.now in
-    let is = c.take_apart-x.ensures in
-    (omega arith, sym (program_on ws at.i c.loop-i-test.true (λ k. c.if-x-eq12.false (is.kind ∙ k))) ∙ at.invariant.1)
+pub loop-w-preserved : goal.loop-w-preserved
+loop-w-preserved c =
+    let at = c.loop-w in
+    sym (program_on c.args.words.now at.w-index c.loop-w-test.true (sym c.is_kind.ensures ∙ c.if-is_kind.false)) ∙ at.invariant
 
 pub returns : goal.returns
 returns c =
-    let at = c.loop-i in
+    let at = c.loop-w in
     let ws = c.args.words.now in
-    let none = sym (program_none ws at.i c.loop-i-test.false) ∙ at.invariant.1 in
+    let none = sym (program_none ws at.w-index c.loop-w-test.false) ∙ at.invariant in
     program_is ws _ (ap (λ (x : rules.PartHead). x.channel) none) (ap (λ (x : rules.PartHead). x.program) none)

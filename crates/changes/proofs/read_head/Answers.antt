@@ -7,7 +7,7 @@ use Rattle.changes.proofs.HeadLaws.{reads_start, reads_next, reads_end, left_lat
 use Rattle.changes.proofs.read_head.Goals as goal
 
 pub loop-i-init : goal.loop-i-init
-loop-i-init c = rw c.new-read.ensures (omega arith, reads_start _)
+loop-i-init c = reads_start _
 
 pub returns-then-deltas-i-gt0 : goal.returns-then-deltas-i-gt0
 returns-then-deltas-i-gt0 c =
@@ -16,7 +16,7 @@ returns-then-deltas-i-gt0 c =
     let ws = c.args.words.now in
     let here : at.i < length ds = omega arith in
     let there : at.i < length ws = omega (arith, c.requires.same) in
-    rw c.done.ensures (reads_end _ _ (left_late ds ws at.i here there c.if-deltas-i-gt0.true) at.read at.invariant.1)
+    rw c.done.ensures (reads_end _ _ (left_late ds ws at.i here there c.if-deltas-i-gt0.true) at.read at.invariant)
 
 pub bounds-words-i : goal.bounds-words-i
 bounds-words-i c =
@@ -33,7 +33,7 @@ loop-i-preserved c =
     let ws = c.args.words.now in
     let here : at.i < length ds = omega arith in
     let there : at.i < length ws = omega (arith, c.requires.same) in
-    rw c.take-read.ensures (omega arith, reads_next ds ws at.i here there _ at.read c.if-deltas-i-gt0.false at.invariant.1)
+    rw c.take-read.ensures (reads_next ds ws at.i here there _ at.read c.if-deltas-i-gt0.false at.invariant)
 
 pub returns : goal.returns
 returns c =
@@ -41,4 +41,4 @@ returns c =
     let ds = c.args.deltas.now in
     let ws = c.args.words.now in
     rw c.done-2.ensures
-    (reads_end _ (left 0 at.i ds ws) (rw (left_none 0 at.i ds ws c.loop-i-test.false) tt) at.read at.invariant.1)
+    (reads_end _ (left 0 at.i ds ws) (rw (left_none 0 at.i ds ws c.loop-i-test.false) tt) at.read at.invariant)

@@ -1,29 +1,49 @@
 -- `take` goes by the word's kind, as the step does: each arm rewrites the step by its kind.
-use mathlib.Core.Path.{sym, ◌∙◌}
+use mathlib.Core.Path.{◌≡◌, sym, ap, ◌∙◌}
 use native.Mathlib.Omega.{arith}
 use borrow.Author.Tests.{ne_eqb}
-use Rattle.track_events.proofs.Tracks.{meter_bounds}
+use Rattle.std.specs.Prelude.{Some}
 use Rattle.rules.specs.Piece.{kind_of}
+use Rattle.track_events.specs.declared.Kind.{Kind}
+use Rattle.track_events.specs.declared.Kind.TheVariants.{Tempo, Meter, Key}
+use Rattle.track_events.specs.Kinds.{kind_number}
+use Rattle.track_events.proofs.Tracks.{meter_bounds}
+use Rattle.track_events.proofs.KindNumbers.{kind_some, kind_none, same_kind}
 use Rattle.changes.specs.Reads.{took}
 use Rattle.changes.proofs.Reading.take.Goals as goal
 
-pub take_meter-requires : goal.take_meter-requires
-take_meter-requires c = omega (arith, meter_bounds c.args.word c.requires (sym c.kind_of-k.ensures ∙ c.in-3.is))
+pub meter_in-requires : goal.meter_in-requires
+meter_in-requires c =
+    omega (arith, meter_bounds c.args.word c.requires (kind_some Meter c.kind_of.ensures (c.in-Some.is ∙ ap Some c.in-Meter.is)))
 
-pub returns-in-2 : goal.returns-in-2
+pub returns-in-Tempo : goal.returns-in-Tempo
 unfolding took
-returns-in-2 c = rw (sym c.kind_of-k.ensures ∙ c.in-2.is) c.take_tempo.ensures
+returns-in-Tempo c =
+    rw (kind_some Tempo c.kind_of.ensures (c.in-Some.is ∙ ap Some c.in-Tempo.is))
+    (rw (c.or-self.ensures, c.tempo_in.ensures))
 
-pub returns-in-3 : goal.returns-in-3
+pub returns-in-Meter : goal.returns-in-Meter
 unfolding took
-returns-in-3 c = rw (sym c.kind_of-k.ensures ∙ c.in-3.is) c.take_meter.ensures
+returns-in-Meter c =
+    rw (kind_some Meter c.kind_of.ensures (c.in-Some.is ∙ ap Some c.in-Meter.is))
+    (rw (c.or-self-in-Meter.ensures, c.meter_in.ensures))
 
-pub returns-in-4 : goal.returns-in-4
+pub returns-in-Key : goal.returns-in-Key
 unfolding took
-returns-in-4 c = rw (sym c.kind_of-k.ensures ∙ c.in-4.is) c.take_key.ensures
+returns-in-Key c =
+    rw (kind_some Key c.kind_of.ensures (c.in-Some.is ∙ ap Some c.in-Key.is))
+    (rw (c.or-self-in-Key.ensures, c.key_in.ensures))
+
+pub returns-in_default-kind : goal.returns-in_default-kind
+unfolding took
+returns-in_default-kind c =
+    let n = kind_some _ c.kind_of.ensures c.in-Some.is in
+    let not = λ (k : Kind) (h : c.in-Some.kind ≡ k → ⊥). ne_eqb (kind_of c.args.word) (kind_number k) (λ e. h (same_kind _ k (sym n ∙ e))) in
+    rw (not Tempo c.in_default-kind.not-Tempo, not Meter c.in_default-kind.not-Meter, not Key c.in_default-kind.not-Key)
 
 pub returns-in_default : goal.returns-in_default
 unfolding took
 returns-in_default c =
+    let n = kind_none c.kind_of.ensures c.in_default.is in
     let k = kind_of c.args.word in
-    rw (ne_eqb k 2 (λ z. omega arith), ne_eqb k 3 (λ z. omega arith), ne_eqb k 4 (λ z. omega arith))
+    rw (ne_eqb k 2 (n Tempo), ne_eqb k 3 (n Meter), ne_eqb k 4 (n Key))
