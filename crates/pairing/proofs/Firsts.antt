@@ -7,7 +7,7 @@ use native.Mathlib.Omega.{arith}
 use lib.ListN.{length}
 use Rattle.rules.specs.Lists.{All}
 use Rattle.rules.specs.RawNotes.{NoteEvent, without_oldest, by_channel}
-use Rattle.laws.proofs.Order.{by_le, by_lt}
+use Rattle.laws.proofs.Order.{by_le}
 use Rattle.laws.proofs.Lists.{All-imp, All-both}
 use Rattle.pairing.specs.Queues.{cell, Inside, Queues}
 use Rattle.pairing.specs.Steps.{Popped, queue_at, Somewhere, First, Waiting, Taken}
@@ -64,14 +64,3 @@ module _ {h h' t : List (List ℕ)} {w : List ℕ} {n m from q : ℕ} {ps : List
 pub record Scanned (h : List (List ℕ)) (from q : ℕ) : Type 0 where
   pub above : from ≤ q
   pub empty : (i : ℕ) → from ≤ i → i < q → queue_at h i ≡ 0
-
-pub scanned_none : (h : List (List ℕ)) (from : ℕ) → Scanned h from from
-scanned_none h from = record { above = omega arith; empty = λ i a b. absurd (omega arith) }
-
-module _ {h : List (List ℕ)} {from q : ℕ} (s : Scanned h from q) where
-  pub scanned_below : Somewhere h from → q < 2048
-  scanned_below p =
-      ⊎_elim (λ l. omega (arith, p.below)) (λ l. absurd (omega (arith, p.full, s.empty p.place p.above l))) (by_le q p.place)
-
-  pub scanned_one : queue_at h q ≡ 0 → Scanned h from (q + 1)
-  scanned_one e = record { above = omega arith; empty = λ i a b. ⊎_elim (λ l. s.empty i a l) (λ l. let z : i ≡ q = omega arith in rw z e) (by_lt i q) }

@@ -96,7 +96,7 @@ module _ {x : Pairing} {e : Event} {n m : ℕ} {h t : List (List ℕ)} {w : List
       }
 
   pub stepped_closed : {r : Start} → is_on e.word ≡ false → is_off e.word ≡ true → Popped h t w n m (byte_a e.word) (byte_b e.word) x.pending r
-      → Stepped x e n m (Closed r.tick r.number) h t w w
+      → Stepped x e n m (Closed r) h t w w
   stepped_closed {r} on off p =
       record {
         is = sym (outcome_off x e on off ∙ ap off_finds p.first ∙ rw (p.is.tick, p.is.number));
@@ -108,16 +108,16 @@ module _ {x : Pairing} {e : Event} {n m : ℕ} {h t : List (List ℕ)} {w : List
       }
 
 -- ---- what each case means
-pub record ClosedBy (x : Pairing) (e : Event) (t k : ℕ) : Type 0 where
+pub record ClosedBy (x : Pairing) (e : Event) (r : Start) : Type 0 where
   pub start : NoteEvent
   pub first : head? (keep (same_key (note_event e)) x.pending) ≡ some start
-  pub is : IsStart start (byte_a e.word) (byte_b e.word) t k
+  pub is : IsStart start (byte_a e.word) (byte_b e.word) r.tick r.number
   pub after_is : after x e ≡ take_off (note_event e) x (some start)
 
 abbrev pub Does : Pairing → Event → Paired → Type 0
 Does x e Other = after x e ≡ x
 Does x e Started = after x e ≡ take_on (note_event e) x
-Does x e (Closed t k) = ClosedBy x e t k
+Does x e (Closed r) = ClosedBy x e r
 Does x e Unmatched = after x e ≡ take_off (note_event e) x none
 
 pub does : (x : Pairing) (e : Event) {r : Paired} → r ≡ outcome x e → Does x e r
@@ -165,13 +165,13 @@ starts_flag m x e {r} q =
 abbrev pub closes : Paired → ℕ
 closes Other = 0
 closes Started = 0
-closes (Closed t k) = 1
+closes (Closed r) = 1
 closes Unmatched = 0
 
 abbrev pub missed : Event → Paired → List NoteEvent
 missed e Other = []
 missed e Started = []
-missed e (Closed t k) = []
+missed e (Closed r) = []
 missed e Unmatched = note_event e ∷ []
 
 pub record Left (x : Pairing) (e : Event) (r : Paired) : Type 1 where
@@ -204,7 +204,7 @@ leaves x e r q = go r (does x e q) (starts_flag 0 x e q)
           few = omega (arith, f);
           all = λ P p a. subst⁻¹ (λ (y : Pairing). All P y.pending) d (All-append P x.pending (note_event e ∷ []) a (p, tt));
         }
-    go (Closed t k) d f =
+    go (Closed r) d f =
         record {
           pending = omega (arith, same d.after_is, length_without (note_event e) d.start x.pending d.first, f);
           closed = λ z. absurd (omega arith);

@@ -13,7 +13,7 @@ use Rattle.pairing.specs.declared.Paired.TheVariants.{Other, Started, Closed, Un
 -- an off that finds nothing pending, or closes a start
 abbrev pub off_finds : Option NoteEvent → Paired
 off_finds none = Unmatched
-off_finds (some s) = Closed s.tick s.number
+off_finds (some s) = Closed (record { tick = s.tick; number = s.number })
 
 abbrev pub outcome : Pairing → Event → Paired
 outcome x e =
@@ -27,7 +27,7 @@ after x e = cond (is_on e.word || is_off e.word) (pair_one x (note_event e)) x
 abbrev pub starts_after : ℕ → Paired → ℕ
 starts_after m Other = m
 starts_after m Started = m + 1
-starts_after m (Closed t e) = m
+starts_after m (Closed s) = m
 starts_after m Unmatched = m
 
 -- what a step asks: a well formed word, and room for one start more

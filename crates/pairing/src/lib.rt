@@ -27,13 +27,12 @@ pub struct Unclosed {
     pub number: u64,
 }
 
-// What an event was: no note event; a start; an off that closed a start, with the start's tick and event number; an off with
-// nothing pending.
+// What an event was: no note event; a start; an off that closed a start; an off with nothing pending.
 #[derive(Clone, Copy)]
 pub enum Paired {
     Other,
     Started,
-    Closed(u64, u64),
+    Closed(Start),
     Unmatched,
 }
 
@@ -66,7 +65,7 @@ fn push(
         → Pushed heads.new tails.new work.old work.new n m ps s }
 {
     write_node(work, n, m, tick, number);
-    let last = basics::size(tails[c][k]);
+    let last = tails[c][k] as usize;
     if heads[c][k] == 0 {
         heads[c][k] = (m + 1) as u32;
         tails[c][k] = (m + 1) as u32;
@@ -83,7 +82,7 @@ fn pop(heads: &mut [[u32; 128]; 16], work: &[u64], n: usize, c: usize, k: usize)
         → Queues heads.old t work.now n m ps
         → Popped heads.new t work.now n m c k ps result }
 {
-    let i = basics::size(heads[c][k]) - 1;
+    let i = heads[c][k] as usize - 1;
     heads[c][k] = work[4 * n + i] as u32;
     Start {
         tick: work[5 * n + i],
@@ -109,8 +108,8 @@ pub fn pair_event(
         → Stepped x (record { number = number; tick = tick; word = w }) n m result heads.new tails.new work.old work.new }
 {
     let x = track_events::take_apart(w);
-    let c = basics::size(x.a);
-    let k = basics::size(x.b);
+    let c = x.a as usize;
+    let k = x.b as usize;
     if track_events::is_on(w) {
         push(heads, tails, work, n, m, c, k, tick, number);
         return Paired::Started;
@@ -119,8 +118,7 @@ pub fn pair_event(
         if heads[c][k] == 0 {
             return Paired::Unmatched;
         }
-        let s = pop(heads, work, n, c, k);
-        return Paired::Closed(s.tick, s.number);
+        return Paired::Closed(pop(heads, work, n, c, k));
     }
     Paired::Other
 }
@@ -130,11 +128,12 @@ fn first_waiting(heads: &[[u32; 128]; 16], from: usize) -> usize
     requires { Somewhere heads.now from }
     ensures { First heads.now from result }
 {
-    let mut q = from;
-    while heads[q / 128][q % 128] == 0 {
-        q += 1;
+    for q in from..2048 {
+        if heads[q / 128][q % 128] != 0 {
+            return q;
+        }
     }
-    q
+    unreachable!()
 }
 
 // Takes the first of the starts still pending, by channel, key, arrival; none is of a queue before `from`.

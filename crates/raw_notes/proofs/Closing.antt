@@ -83,6 +83,5 @@ module _ {h t : List (List ℕ)} {w : List ℕ} {n m r from last : ℕ} {x : Pai
       }
 
 -- the loop: whatever pairing the arrays held
-pub record Reach (h₀ : List (List ℕ)) (w₀ : List ℕ) (n m notes last : ℕ) (h : List (List ℕ)) (w : List ℕ) (r from : ℕ) : Type 0 where
-  pub kept : length w ≡ length w₀
-  pub reach : (t : List (List ℕ)) (x : Pairing) → Pairs h₀ t w₀ n m notes x → Closing h t w n m r from last x
+abbrev pub Reach : List (List ℕ) → List ℕ → ℕ → ℕ → ℕ → ℕ → List (List ℕ) → List ℕ → ℕ → ℕ → Type 0
+Reach h₀ w₀ n m notes last h w r from = (t : List (List ℕ)) (x : Pairing) → Pairs h₀ t w₀ n m notes x → Closing h t w n m r from last x

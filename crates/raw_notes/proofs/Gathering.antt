@@ -5,14 +5,14 @@ use mathlib.Core.Path.{◌≡◌, refl, sym, ap, ◌∙◌}
 use native.Mathlib.Numerals.{add-one}
 use native.Mathlib.Omega.{arith}
 use lib.ListN.{length, get_or, set, take, drop, length-set, length-drop, get_or-map}
-use lib.Seq.{take-suc, take-suc-set, take-set-le, take-take, drop-set-lt, drop-set-add, get_or-set_other, get_or-take, get_or-drop, length-take-le}
+use lib.Seq.{take-suc, take-suc-set, take-set-le, take-take, drop-set-lt, drop-set-add, get_or-set_other, get_or-take, get_or-drop}
 use Rattle.rules.specs.Lists.{All, sort_by}
 use Rattle.rules.specs.Piece.{Event}
 use Rattle.rules.specs.RawNotes.{RawNote, note_events, pairing, by_start, raw_notes_of, last_tick}
 use Rattle.laws.specs.NoteWords.{start_word, end_word}
 use Rattle.laws.specs.Parts.{part}
 use Rattle.laws.specs.Sort.{key_of, count}
-use Rattle.laws.proofs.Lists.{All-imp, All-get}
+use Rattle.laws.proofs.Lists.{All-imp}
 use Rattle.laws.proofs.Sort.{All-sort, All-count, length_sort, sort_places}
 use Rattle.sort.specs.Sorted.{Placed}
 use Rattle.raw_notes.specs.Columns.{Listed, Noted}
@@ -28,21 +28,12 @@ pub record Gathering (w₀ w : List ℕ) (n r i : ℕ) : Type 0 where
   pub places : (j : ℕ) → i ≤ j → j < n → get_or w j 0 ≡ get_or w₀ j 0
   pub rest : (j : ℕ) → 2 * n ≤ j → get_or w j 0 ≡ get_or w₀ j 0
 
-pub gathering_none : (w : List ℕ) (n r : ℕ) → Gathering w w n r 0
-gathering_none w n r =
-    record { within = omega arith; kept = refl; ends = refl; starts = refl; places = λ j _ _. refl; rest = λ j _. refl }
-
 -- one element more of a list that is mapped
 map_more : (f : ℕ → ℕ) (w : List ℕ) (i : ℕ) → i < length w → map f (take i w) ++ (f (get_or w i 0) ∷ []) ≡ map f (take (i + 1) w)
 map_more f w i h = sym (rw (add-one, take-suc w i 0 h) (map-append f (take i w) (get_or w i 0 ∷ [])))
 
-module _ {w₀ w : List ℕ} {n r i : ℕ} (room : r ≤ n) (area : 16 * n ≤ length w₀) (small : All (λ p. p < n) (take r w₀)) (p : Gathering w₀ w n r i)
+module _ {w₀ w : List ℕ} {n r i : ℕ} (room : r ≤ n) (area : 16 * n ≤ length w₀) (p : Gathering w₀ w n r i)
     (more : i < r) where
-  pub place_small : get_or w i 0 < n
-  place_small =
-      let s = All-get (λ p. p < n) (take r w₀) i 0 small (omega (arith, length-take-le r w₀ (omega arith))) in
-      omega (arith, s, get_or-take r w₀ i 0 more, p.places i (omega arith) (omega arith))
-
   abbrev end : ℕ
   end = get_or w (3 * n + get_or w i 0) 0
 
@@ -84,11 +75,6 @@ module _ {w₀ w : List ℕ} {n r i : ℕ} (room : r ≤ n) (area : 16 * n ≤ l
     where
       outside : (j : ℕ) → (j ≡ i → ⊥) → (j ≡ n + i → ⊥) → get_or (set w₁ (n + i) start) j 0 ≡ get_or w j 0
       outside j a b = get_or-set_other w₁ (n + i) j start 0 b ∙ get_or-set_other w i j end 0 a
-
-pub gathering_end : {w₀ w : List ℕ} {n r i : ℕ} → r ≤ i → Gathering w₀ w n r i → Gathered w₀ w n r
-gathering_end {w₀} {w} {n} {r} {i} h p =
-    let last : i ≡ r = omega (arith, p.within) in
-    record { ends = rw last at p.ends; starts = rw last at p.starts }
 
 -- ---- all stages together
 no_note : RawNote

@@ -10,6 +10,7 @@ use Rattle.rules.specs.RawNotes.{NoteEvent, note_event, raw_note, Pairing, same_
 use Rattle.laws.proofs.Lists.{first_kept}
 use Rattle.pairing.specs.Queues.{Inside}
 use Rattle.pairing.specs.Outcome.{after, starts_after, Stepped}
+use Rattle.pairing.specs.declared.Start.{Start}
 use Rattle.pairing.specs.declared.Paired.{Paired}
 use Rattle.pairing.specs.declared.Paired.TheVariants.{Closed}
 use Rattle.pairing.proofs.Chains.{queues_kept, same_behind}
@@ -36,13 +37,13 @@ module _ {h t h₀ t₀ : List (List ℕ)} {w w₀ : List ℕ} {n m r : ℕ} {x 
       }
 
   -- an off that closes a start
-  module _ {t₁ k : ℕ} (q : Stepped x e n m (Closed t₁ k) h t w₀ w) where
-    by : ClosedBy x e t₁ k
+  module _ {b : Start} (q : Stepped x e n m (Closed b) h t w₀ w) where
+    by : ClosedBy x e b
     by = does x e q.is
 
     -- one start less is pending
     one_less : length (after x e).pending + 1 ≡ length x.pending
-    one_less = omega (arith, (leaves x e (Closed t₁ k) q.is).pending, starts_flag 0 x e q.is)
+    one_less = omega (arith, (leaves x e (Closed b) q.is).pending, starts_flag 0 x e q.is)
 
     -- what holds of all pending starts holds of the one that closed
     of_start : (P : NoteEvent → Type 0) → All P x.pending → P by.start
@@ -50,7 +51,7 @@ module _ {h t h₀ t₀ : List (List ℕ)} {w w₀ : List ℕ} {n m r : ℕ} {x 
 
     -- what `put_note` asks, for its key and its channel
     pub note_fits : e.tick < 2 ^ 47 → {key channel : ℕ} → key ≡ byte_b e.word → channel ≡ byte_a e.word
-        → (r < n) × (16 * n ≤ length w) × (t₁ < 2 ^ 47) × (e.tick < 2 ^ 47) × (key < 128) × (channel < 16)
+        → (r < n) × (16 * n ≤ length w) × (b.tick < 2 ^ 47) × (e.tick < 2 ^ 47) × (key < 128) × (channel < 16)
     note_fits soon is_key is_channel =
         let inside = of_start Inside p.queues.inside in (
           omega (arith, p.held, one_less, p.queues.room),
@@ -61,17 +62,17 @@ module _ {h t h₀ t₀ : List (List ℕ)} {w w₀ : List ℕ} {n m r : ℕ} {x 
           omega (arith, is_channel, by.is.channel, inside.channel),
         )
 
-    pairs_closed : e.tick < 2 ^ 47 → {w₂ : List ℕ} → length w₂ ≡ length w → NotePut w w₂ n r (note_of t₁ e.tick (byte_b e.word) (byte_a e.word))
+    pairs_closed : e.tick < 2 ^ 47 → {w₂ : List ℕ} → length w₂ ≡ length w → NotePut w w₂ n r (note_of b.tick e.tick (byte_b e.word) (byte_a e.word))
         → Pairs h t w₂ n m (r + 1) (after x e)
     pairs_closed soon {w₂} long₂ put =
         record {
           queues = queues_kept (same_behind long₂ put.rest) q.queues;
           listed = subst⁻¹ (λ (y : Pairing). Listed n (r + 1) w₂ y.closed) by.after_is (rw note (put.more x.closed (listed q)));
           held = omega (arith, p.held, one_less);
-          early = (leaves x e (Closed t₁ k) q.is).all Early soon p.early;
+          early = (leaves x e (Closed b) q.is).all Early soon p.early;
         }
       where
-        note : raw_note by.start e.tick ≡ note_of t₁ e.tick (byte_b e.word) (byte_a e.word)
+        note : raw_note by.start e.tick ≡ note_of b.tick e.tick (byte_b e.word) (byte_a e.word)
         note = rw (by.is.tick, by.is.key, by.is.channel)
 
 -- ---- a turn, by what the event was
@@ -81,7 +82,7 @@ module _ {h t h₀ t₀ : List (List ℕ)} {w w₀ : List ℕ} {n : ℕ} {x : Pa
       → Turned h t w n x e s (record { tick = e.tick; starts = starts_after s.starts o; notes = s.notes })
   turned_open o none q = record { pairs = pairs_open long p soon o none q; tick = refl; starts = starts_flag s.starts x e q.is }
 
-  pub turned_closed : {t₁ k : ℕ} {w₂ : List ℕ} → Stepped x e n s.starts (Closed t₁ k) h t w₀ w → length w₂ ≡ length w
-      → NotePut w w₂ n s.notes (note_of t₁ e.tick (byte_b e.word) (byte_a e.word))
+  pub turned_closed : {b : Start} {w₂ : List ℕ} → Stepped x e n s.starts (Closed b) h t w₀ w → length w₂ ≡ length w
+      → NotePut w w₂ n s.notes (note_of b.tick e.tick (byte_b e.word) (byte_a e.word))
       → Turned h t w₂ n x e s (record { tick = e.tick; starts = s.starts; notes = s.notes + 1 })
   turned_closed q long₂ put = record { pairs = pairs_closed long p q soon long₂ put; tick = refl; starts = starts_flag s.starts x e q.is }

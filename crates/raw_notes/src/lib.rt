@@ -28,7 +28,7 @@ fn put_note(work: &mut [u64], n: usize, r: usize, start: u64, tick: u64, key: u6
     requires { (r < n) × (16 * n ≤ length work.old) × (start < 2 ^ 47) × (tick < 2 ^ 47) × (key < 128) × (channel < 16) }
     ensures { NotePut work.old work.new n r (note_of start tick key channel) }
 {
-    let end = basics::larger(tick, start + 1);
+    let end = tick.max(start + 1);
     work[2 * n + r] = start * 128 + key;
     work[3 * n + r] = end * 16 + channel;
 }
@@ -60,17 +60,9 @@ fn take_event(
             next.starts = m + 1;
             next
         }
-        Paired::Closed(start, _) => {
+        Paired::Closed(start) => {
             let x = track_events::take_apart(w);
-            put_note(
-                work,
-                n,
-                r,
-                start,
-                tick,
-                basics::wide(x.b),
-                basics::wide(x.a),
-            );
+            put_note(work, n, r, start.tick, tick, u64::from(x.b), u64::from(x.a));
             next.notes = r + 1;
             next
         }
@@ -95,11 +87,9 @@ fn pair_track(
         starts: 0,
         notes: 0,
     };
-    let mut i = 0;
-    while i < deltas.len() {
-        let tick = s.tick + basics::wide(deltas[i]);
+    for (i, delta) in deltas.iter().enumerate() {
+        let tick = s.tick + u64::from(*delta);
         s = take_event(heads, tails, work, n, s, tick, i, words[i]);
-        i += 1;
     }
     s
 }
@@ -118,9 +108,8 @@ fn close_pending(
         → Pairs heads.old t work.old n m notes x
         → AllClosed heads.new work.new n m last x }
 {
-    let mut r = notes;
     let mut from = 0;
-    while r < m {
+    for r in notes..m {
         let u = pairing::take_pending(heads, work, n, from);
         from = u.queue;
         put_note(
@@ -132,7 +121,6 @@ fn close_pending(
             (from % 128) as u64,
             (from / 128) as u64,
         );
-        r += 1;
     }
 }
 
@@ -141,12 +129,10 @@ fn gather(work: &mut [u64], n: usize, r: usize)
     requires { (r ≤ n) × (16 * n ≤ length work.old) × All (λ p. p < n) (take r work.old) }
     ensures { Gathered work.old work.new n r }
 {
-    let mut i = 0;
-    while i < r {
+    for i in 0..r {
         let p = work[i] as usize;
         work[i] = work[3 * n + p];
         work[n + i] = work[2 * n + p];
-        i += 1;
     }
 }
 

@@ -1,7 +1,7 @@
 -- The starts still pending, one after another: those put, then those left by channel, key, arrival, are all.
-use Prim.Native.Nat.{ℕ, ◌+◌, ◌-◌, ◌/◌, ◌%◌, ◌≤◌}
+use Prim.Native.Nat.{ℕ, ◌+◌, ◌/◌, ◌%◌, ◌≤◌}
 use mathlib.Core.List.{List, [], ◌∷◌, ◌++◌, map, map-append}
-use mathlib.Core.Path.{◌≡◌, sym, ap}
+use mathlib.Core.Path.{◌≡◌, sym, ap, ◌∙◌}
 use native.Mathlib.Omega.{arith}
 use lib.ListN.{length, length-map}
 use Rattle.rules.specs.Lists.{sort_by}
@@ -12,7 +12,7 @@ use Rattle.laws.proofs.Sort.{length_sort}
 use Rattle.track_events.specs.Track.{events_of}
 use Rattle.pairing.specs.Steps.{Taken}
 use Rattle.pairing.specs.declared.Unclosed.{Unclosed}
-use Rattle.pairing.proofs.Taking.{Taking, taking_start, taken_fits, taken_inside, taken_some, taking_more, taking_end}
+use Rattle.pairing.proofs.Taking.{Taking, taking_start, taken_fits, taken_inside, taking_more, taking_end}
 use Rattle.findings.specs.Found.{Found, FoundIn, Packs, diagnostic_of, on_at}
 use Rattle.unmatched.specs.Stages.{Fits, Pairs, PairedAll, AllTaken, Emptied}
 use Rattle.unmatched.specs.declared.Seen.{Seen}
@@ -24,9 +24,9 @@ pub record Puts (h t : List (List ℕ)) (w : List ℕ) (n m track at : ℕ) (x :
   pub taking : Taking Fits h t w n m from x.pending done left
   pub found : Found (map (unmatched_on track) done) at p₀ d₀ next p d
 
-pub puts_start : {h t : List (List ℕ)} {w : List ℕ} {n m waiting : ℕ} (track at : ℕ) {x : Pairing} (p d : List ℕ) → Pairs h t w n m waiting x
-    → Puts h t w n m track at x p d waiting 0 at p d
-puts_start track at p d v = record { done = []; taking = taking_start v.queues v.held v.fits; found = found_none at p d }
+pub puts_start : {h t : List (List ℕ)} {w : List ℕ} {n m waiting : ℕ} (track at : ℕ) {x : Pairing} (p d : List ℕ) {left : ℕ} → waiting ≡ left → Pairs h t w n m waiting x
+    → Puts h t w n m track at x p d left 0 at p d
+puts_start track at p d all v = record { done = []; taking = taking_start v.queues (v.held ∙ all) v.fits; found = found_none at p d }
 
 module _ {h t : List (List ℕ)} {w : List ℕ} {n m track at : ℕ} {x : Pairing} {p₀ d₀ : List ℕ} {left from next : ℕ} {p d : List ℕ}
     (v : Puts h t w n m track at x p₀ d₀ left from next p d) where
@@ -43,11 +43,10 @@ module _ {h t : List (List ℕ)} {w : List ℕ} {n m track at : ℕ} {x : Pairin
           key = omega arith;
         }
 
-    pub puts_more : {r : ℕ} {p₁ d₁ : List ℕ}
+    pub puts_more : {left' r : ℕ} {p₁ d₁ : List ℕ} → left ≡ left' + 1
         → Found (diagnostic_of (on_at track u.number u.tick (u.queue / 128) (u.queue % 128)) ∷ []) next p d r p₁ d₁
-        → Puts h' t w n m track at x p₀ d₀ (left - 1) u.queue r p₁ d₁
-    puts_more f =
-        let some = taken_some v.taking q in
+        → Puts h' t w n m track at x p₀ d₀ left' u.queue r p₁ d₁
+    puts_more less f =
         record {
           done = v.done ++ (q.start ∷ []);
           taking = taking_more v.taking q (omega arith);
@@ -66,8 +65,6 @@ module _ {h t : List (List ℕ)} {w : List ℕ} {n m track at : ℕ} {x : Pairin
 pub record Reach (h₀ : List (List ℕ)) (w : List ℕ) (n waiting track at : ℕ) (p₀ d₀ : List ℕ) (h : List (List ℕ)) (left from next : ℕ) (p d : List ℕ)
     : Type 0 where
   pub few : next + left ≡ at + waiting
-  pub places : length p ≡ length p₀
-  pub details : length d ≡ length d₀
   pub reach : (t : List (List ℕ)) (m : ℕ) (x : Pairing) → Pairs h₀ t w n m waiting x → Puts h t w n m track at x p₀ d₀ left from next p d
 
 -- ---- a track: its offs without ons, then its ons without offs

@@ -8,6 +8,7 @@ use Rattle.rules.specs.Piece.{Event}
 use Rattle.rules.specs.RawNotes.{note_event, Pairing}
 use Rattle.rules.specs.Diagnostics.{unmatched_off}
 use Rattle.pairing.specs.Outcome.{starts_after, Stepped}
+use Rattle.pairing.specs.declared.Start.{Start}
 use Rattle.pairing.specs.declared.Paired.{Paired}
 use Rattle.pairing.specs.declared.Paired.TheVariants.{Closed}
 use Rattle.pairing.proofs.Outcomes.{starts_flag, closes, missed, leaves}
@@ -16,9 +17,9 @@ use Rattle.unmatched.specs.Stages.{Fits, Pairs, Turned}
 use Rattle.unmatched.specs.declared.Seen.{Seen}
 
 -- an off that closes a start: one waits
-pub one_waits : {h t h₀ t₀ : List (List ℕ)} {w w₀ : List ℕ} {n m waiting : ℕ} {x : Pairing} {e : Event} {t₁ k : ℕ} → Pairs h₀ t₀ w₀ n m waiting x
-    → Stepped x e n m (Closed t₁ k) h t w₀ w → 0 < waiting
-one_waits {x = x} {e = e} {t₁ = t₁} {k = k} v q = omega (arith, v.held, (leaves x e (Closed t₁ k) q.is).pending, starts_flag 0 x e q.is)
+pub one_waits : {h t h₀ t₀ : List (List ℕ)} {w w₀ : List ℕ} {n m waiting : ℕ} {x : Pairing} {e : Event} {b : Start} → Pairs h₀ t₀ w₀ n m waiting x
+    → Stepped x e n m (Closed b) h t w₀ w → 0 < waiting
+one_waits {x = x} {e = e} {b = b} v q = omega (arith, v.held, (leaves x e (Closed b) q.is).pending, starts_flag 0 x e q.is)
 
 -- h, t and w are those after the step, w₀ the work area before it
 module _ {h t h₀ t₀ : List (List ℕ)} {w w₀ : List ℕ} {n : ℕ} {x : Pairing} {e : Event} {s : Seen} (v : Pairs h₀ t₀ w₀ n s.starts s.waiting x) where

@@ -82,12 +82,12 @@ fn take_event(
             seen.waiting = waiting + 1;
             seen
         }
-        Paired::Closed(_, _) => {
+        Paired::Closed(_) => {
             seen.waiting = waiting - 1;
             seen
         }
         Paired::Unmatched => {
-            let channel = basics::wide(track_events::byte_a(w));
+            let channel = u64::from(track_events::byte_a(w));
             let d = unmatched_off(track, i as u64, tick, channel);
             seen.next = findings::put(places, details, at, d);
             seen
@@ -96,6 +96,7 @@ fn take_event(
 }
 
 // Pairs the events of a track; its offs without ons are put.
+// Kept beside raw_notes' loop: they share pairing::pair_event, and one loop for both needs a trait whose laws restate both contracts.
 fn pair_track(
     deltas: &[u32],
     words: &[u32],
@@ -118,13 +119,11 @@ fn pair_track(
         waiting: 0,
         next: at,
     };
-    let mut i = 0;
-    while i < deltas.len() {
-        let tick = s.tick + basics::wide(deltas[i]);
+    for (i, delta) in deltas.iter().enumerate() {
+        let tick = s.tick + u64::from(*delta);
         s = take_event(
             heads, tails, work, n, track, s, tick, i, words[i], places, details,
         );
-        i += 1;
     }
     s
 }
@@ -146,13 +145,11 @@ fn take_all(
         → AllTaken heads.new track x at places.old details.old result places.new details.new }
 {
     let mut next = at;
-    let mut left = waiting;
     let mut from = 0;
-    while 0 < left {
+    for _ in 0..waiting {
         let u = pairing::take_pending(heads, work, n, from);
         from = u.queue;
         next = findings::put(places, details, next, unmatched_on(track, u));
-        left -= 1;
     }
     next
 }

@@ -14,8 +14,8 @@ push-requires c =
     let b = note_bounds _ p.formed (inl on) in
     let a = c.take_apart-x.ensures in
     record {
-      channel = omega (arith, b.channel, a.a, c.size-c.ensures);
-      key = omega (arith, b.first, a.b, c.size-k.ensures);
+      channel = omega (arith, b.channel, a.a);
+      key = omega (arith, b.first, a.b);
       room = p.room on;
       small = p.small;
       held = p.held;
@@ -28,8 +28,8 @@ returns-then-is_on c x q =
     stepped_on on
     (c.push.ensures x.pending _ q
     (record {
-      channel = sym (c.size-c.ensures ∙ a.a);
-      key = sym (c.size-k.ensures ∙ a.b);
+      channel = sym (a.a);
+      key = sym (a.b);
       tick = refl;
       number = refl;
     }))
@@ -38,13 +38,13 @@ pub bounds-heads-c : goal.bounds-heads-c
 bounds-heads-c c =
     let b = note_bounds _ c.requires.formed (inr (sym c.is_off.ensures ∙ c.if-is_off.true)) in
     let a = c.take_apart-x.ensures in
-    omega (arith, b.channel, a.a, c.size-c.ensures)
+    omega (arith, b.channel, a.a)
 
 pub bounds-heads-k : goal.bounds-heads-k
 bounds-heads-k c =
     let b = note_bounds _ c.requires.formed (inr (sym c.is_off.ensures ∙ c.if-is_off.true)) in
     let a = c.take_apart-x.ensures in
-    omega (arith, b.first, a.b, c.size-k.ensures)
+    omega (arith, b.first, a.b)
 
 pub returns-then-heads-c-eq0 : goal.returns-then-heads-c-eq0
 returns-then-heads-c-eq0 c x q =
@@ -54,11 +54,11 @@ returns-then-heads-c-eq0 c x q =
     let b = note_bounds _ c.requires.formed (inr off) in
     stepped_unmatched on off
     (queue_empty _ _ b.channel b.first
-    (rw (c.size-c.ensures ∙ a.a, c.size-k.ensures ∙ a.b) at c.if-heads-c-eq0.true) q)
+    (rw (a.a, a.b) at c.if-heads-c-eq0.true) q)
     q
 
-pub pop-s-requires : goal.pop-s-requires
-pop-s-requires c =
+pub pop-requires : goal.pop-requires
+pop-requires c =
     let p = c.requires.held in
     let b = note_bounds _ c.requires.formed (inr (sym c.is_off.ensures ∙ c.if-is_off.true)) in
     let a = c.take_apart-x.ensures in
@@ -67,8 +67,8 @@ pop-s-requires c =
       count = _;
       pending = p.pending;
       queues = p.queues;
-      channel = omega (arith, b.channel, a.a, c.size-c.ensures);
-      key = omega (arith, b.first, a.b, c.size-k.ensures);
+      channel = omega (arith, b.channel, a.a);
+      key = omega (arith, b.first, a.b);
       full = omega arith;
     }
 
@@ -77,7 +77,7 @@ returns-then-is_off c x q =
     let on = sym c.is_on.ensures ∙ c.if-is_on.false in
     let off = sym c.is_off.ensures ∙ c.if-is_off.true in
     let a = c.take_apart-x.ensures in
-    stepped_closed on off (rw (c.size-c.ensures ∙ a.a, c.size-k.ensures ∙ a.b) at (c.pop-s.ensures _ _ _ q))
+    stepped_closed on off (rw (a.a, a.b) at (c.pop.ensures _ _ _ q))
 
 pub returns : goal.returns
 returns c x q =

@@ -13,7 +13,7 @@ pub bounds-work-n : goal.bounds-work-n
 bounds-work-n c = omega (arith, queued_leads c.requires)
 
 pub overflow_cast-heads : goal.overflow_cast-heads
-overflow_cast-heads c = rw c.size-i.ensures (omega (arith, queued_leads c.requires))
+overflow_cast-heads c = omega (arith, queued_leads c.requires)
 
 pub overflow_add-result : goal.overflow_add-result
 overflow_add-result c = omega (arith, queued_leads c.requires)
@@ -36,4 +36,4 @@ bounds-work-n-3 c = omega (arith, queued_leads c.requires)
 pub returns : goal.returns
 returns c t m ps q =
     let p = c.requires in
-    rw c.size-i.ensures (popped q p.channel p.key p.full)
+    popped q p.channel p.key p.full

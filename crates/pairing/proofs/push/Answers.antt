@@ -25,5 +25,4 @@ pub returns-else-heads-c-eq0 : goal.returns-else-heads-c-eq0
 returns-else-heads-c-eq0 c ps s q e =
     let p = c.requires in
     let x = c.write_node.ensures in
-    rw c.size-last.ensures
-    (pushed_behind (queues_kept x.same q) p.channel p.key p.room p.small e x.node x.front (omega arith))
+    pushed_behind (queues_kept x.same q) p.channel p.key p.room p.small e x.node x.front (omega arith)

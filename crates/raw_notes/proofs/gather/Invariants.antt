@@ -1,10 +1,6 @@
 -- `gather` brings the notes' words to the front. The invariant: i of them are there, and the places behind them are as they were.
-use Prim.Native.Nat.{◌-◌}
 use Rattle.raw_notes.proofs.Gathering.{Gathering}
 use Rattle.raw_notes.proofs.gather.Given as goal
 
 abbrev pub invariant-loop-i : goal.invariant-loop-i
 invariant-loop-i l = Gathering l.initial.work l.work l.n l.r l.i
-
-abbrev pub decreases-loop-i : goal.decreases-loop-i
-decreases-loop-i l = l.r - l.i

@@ -9,7 +9,7 @@ put_note-requires c =
     let pre = c.requires in
     let a = c.take_apart-x.ensures in
     let q = rw c.in-Closed.is at (c.pair_event-p.ensures pre.x pre.pairs.queues) in
-    note_fits c.pair_event-p.auto.work pre.pairs q pre.soon (c.wide.ensures ∙ a.b) (c.wide-in-Closed.ensures ∙ a.a)
+    note_fits c.pair_event-p.auto.work pre.pairs q pre.soon (c.from.ensures ∙ a.b) (c.from-in-Closed.ensures ∙ a.a)
 
 pub returns-in-Other : goal.returns-in-Other
 returns-in-Other c x p =
@@ -26,7 +26,7 @@ returns-in-Closed c x p =
     let a = c.take_apart-x.ensures in
     let q = rw c.in-Closed.is at (c.pair_event-p.ensures x p.queues) in
     turned_closed c.pair_event-p.auto.work p c.requires.soon q c.put_note.auto.work
-    (rw (c.wide.ensures ∙ a.b, c.wide-in-Closed.ensures ∙ a.a) at c.put_note.ensures)
+    (rw (c.from.ensures ∙ a.b, c.from-in-Closed.ensures ∙ a.a) at c.put_note.ensures)
 
 pub returns-in-Unmatched : goal.returns-in-Unmatched
 returns-in-Unmatched c x p =

@@ -10,21 +10,6 @@ overflow_sub-seen c =
     let pre = c.requires in
     one_waits pre.pairs (rw c.in-Closed.is at (c.pair_event-p.ensures pre.x pre.pairs.queues))
 
-pub put-requires : goal.put-requires
-put-requires c =
-    let pre = c.requires in
-    rw c.unmatched_off-d.ensures (
-      record {
-        code = omega arith;
-        track = pre.numbered;
-        event = pre.small;
-        tick = pre.soon;
-        channel = omega (arith, c.wide-channel.ensures, c.byte_a.ensures);
-        key = omega arith;
-      },
-      omega (arith, pre.next),
-    )
-
 pub returns-in-Other : goal.returns-in-Other
 returns-in-Other c x p =
     let pre = c.requires in
@@ -43,11 +28,11 @@ pub returns-in-Closed : goal.returns-in-Closed
 returns-in-Closed c x p =
     let pre = c.requires in
     let q = rw c.in-Closed.is at (c.pair_event-p.ensures x p.queues) in
-    turned p (record { tick = pre.soon; number = pre.small }) (Closed _ _) q (omega (arith, one_waits p q)) (found_none _ _ _)
+    turned p (record { tick = pre.soon; number = pre.small }) (Closed _) q (omega (arith, one_waits p q)) (found_none _ _ _)
 
 pub returns-in-Unmatched : goal.returns-in-Unmatched
 returns-in-Unmatched c x p =
     let pre = c.requires in
     turned p (record { tick = pre.soon; number = pre.small }) Unmatched (rw c.in-Unmatched.is at (c.pair_event-p.ensures x p.queues))
     (omega arith)
-    (rw (c.unmatched_off-d.ensures, c.wide-channel.ensures, c.byte_a.ensures) at c.put.ensures)
+    (rw (c.unmatched_off-d.ensures, c.from-channel.ensures, c.byte_a.ensures) at c.put.ensures)
