@@ -4,12 +4,15 @@ use mathlib.Core.Bool.{true, false, cond, false≢true}
 use mathlib.Core.List.{List, [], ◌∷◌}
 use mathlib.Core.Logic.{◌⊎◌, inl, inr, ⊎_elim}
 use mathlib.Core.Option.{Option, none, some}
+use Rattle.std.proofs.lemmas.Bool.{ltb-true, ltb-false}
+use Rattle.std.specs.Prelude as std
+use Rattle.std.specs.Prelude.{None, Some}
 use mathlib.Core.Path.{◌≡◌, refl, sym, ap, ◌∙◌}
 use native.Mathlib.Nat.{pow-suc, pow-le-pow_right}
 use native.Mathlib.Numerals.{add-one}
 use native.Mathlib.Omega.{arith}
 use borrow.Author.Tests.{eqb-true, lt-ltb, le-ltb, le-leb, lt-leb, ne_eqb}
-use lib.Dec.{eqb}
+use lib.Dec.{eqb, ltb}
 use lib.ListN.{length, get_or, take, drop, length-drop, drop_of_length-le, get_or-eq_default}
 use lib.Seq.{drop-cons, drop-drop}
 use Rattle.rules.specs.Meanings.{is_marker}
@@ -25,16 +28,21 @@ use Rattle.track_events.proofs.Tracks.{length_stretch}
 use Rattle.file_events.specs.declared.Quantity.{Quantity}
 use Rattle.file_events.specs.declared.Span.{Span}
 use Rattle.file_events.specs.declared.Taken.{Taken}
-use Rattle.file_events.specs.Events.{NumberIs, SpanIs, ChannelStatus, channel_taken, MessageIs, EventIs}
+use Rattle.file_events.specs.Events.{found, NumberIs, SpanIs, ChannelStatus, channel_taken, MessageIs, EventIs}
 
 -- ---- what agrees
 
 module _ {A B : Type 0} where
-  -- by what the definition finds, where the program finds something
-  found_by : (P : A → B → Type 0) {C : Type 0} {o : Option A} {b : B} → Agrees P o (some b) → ((a : A) → o ≡ some a → P a b → C) → C
-  found_by P {C} {o} {b} h f =
-      let found = agrees_some P o b h in
-      f found.0 found.1 found.2
+  -- what the program finds, the definition finds
+  found_by : (P : A → B → Type 0) {C : Type 0} {o : Option A} {r : std.Option B} {b : B} → r ≡ Some b → Agrees P o (found r)
+      → ((a : A) → o ≡ some a → P a b → C) → C
+  found_by P {C} {o} {r} {b} is h f =
+      let both = agrees_some P o b (rw is at h) in
+      f both.0 both.1 both.2
+
+  -- where the program finds nothing, nor does the definition
+  nothing : (P : A → B → Type 0) {o : Option A} {r : std.Option B} → r ≡ None → Agrees P o (found r) → o ≡ none
+  nothing P {o} {r} is h = agrees_none P o (rw is at h)
 
   weaker : (P Q : A → B → Type 0) → ((a : A) (b : B) → P a b → Q a b) → (o : Option A) (o' : Option B) → Agrees P o o' → Agrees Q o o'
   unfolding Agrees
@@ -45,19 +53,25 @@ module _ {A B : Type 0} where
 
 -- ---- bytes
 
--- 256 stands for none
-module _ (bs : List ℕ) (at : ℕ) where
-  pub there : get_or bs at 256 < 256 → at < length bs
-  there h = ⊎_elim (λ past. absurd (omega (arith, get_or-eq_default bs 256 past))) (λ lt. lt) (by_le (length bs) at)
-
-  pub drop_byte : get_or bs at 256 < 256 → drop at bs ≡ get_or bs at 256 ∷ drop (at + 1) bs
-  drop_byte h = rw add-one (drop-cons bs at 256 (there h))
-
 -- a byte that is there, whatever stands for none
 pub get_d_any : (bs : List ℕ) (i d e : ℕ) → i < length bs → get_or bs i d ≡ get_or bs i e
 get_d_any [] i d e h = absurd (omega arith)
 get_d_any (b ∷ bs) zero d e h = refl
 get_d_any (b ∷ bs) (suc i) d e h = get_d_any bs i d e (omega arith)
+
+-- 256 stands for none
+module _ (bs : List ℕ) (at : ℕ) where
+  pub byte_there : true ≡ ltb at (length bs) → {b : ℕ} (d : ℕ) → b ≡ get_or bs at d → b ≡ get_or bs at 256
+  byte_there h d e = e ∙ get_d_any bs at d 256 (ltb-true at (length bs) (sym h))
+
+  pub no_byte : false ≡ ltb at (length bs) → 256 ≡ get_or bs at 256
+  no_byte h = sym (get_or-eq_default bs 256 (ltb-false at (length bs) (sym h)))
+
+  pub there : get_or bs at 256 < 256 → at < length bs
+  there h = ⊎_elim (λ past. absurd (omega (arith, get_or-eq_default bs 256 past))) (λ lt. lt) (by_le (length bs) at)
+
+  pub drop_byte : get_or bs at 256 < 256 → drop at bs ≡ get_or bs at 256 ∷ drop (at + 1) bs
+  drop_byte h = rw add-one (drop-cons bs at 256 (there h))
 
 -- ---- numbers
 
@@ -66,52 +80,54 @@ unfolding number_in
 number_nothing zero v = refl
 number_nothing (suc k) v = refl
 
--- k bytes of a number are read, up to position i: v is the value so far
-pub record Partly (bs : List ℕ) (at v i k : ℕ) : Type 0 where
-  pub bytes : k ≤ 4
-  pub place : i ≡ at + k
-  pub within : i ≤ length bs
-  pub small : v < 128 ^ k
-  pub left : number_in (4 - k) v (drop i bs) ≡ number (drop at bs)
+-- a number's bytes are read up to position i: v is the value so far
+pub record Partly (bs : List ℕ) (at v i : ℕ) : Type 0 where
+  pub bytes : i ≤ at + 4
+  pub ahead : at ≤ i
+  pub small : v < 128 ^ (i - at)
+  pub left : number_in (at + 4 - i) v (drop i bs) ≡ number (drop at bs)
 
 module _ (bs : List ℕ) (at : ℕ) where
-  pub partly_none : at ≤ length bs → Partly bs at 0 at 0
-  partly_none h = record { bytes = omega arith; place = omega arith; within = h; small = omega arith; left = refl }
+  pub partly_none : Partly bs at 0 at
+  partly_none =
+      let start : at - at ≡ 0 = omega arith in
+      let four : at + 4 - at ≡ 4 = omega arith in
+      record { bytes = omega arith; ahead = omega arith; small = rw start (omega arith); left = rw four }
 
-  module _ (v i k : ℕ) (p : Partly bs at v i k) where
+  module _ (v i : ℕ) (p : Partly bs at v i) where
     -- a fourth byte's value fits
-    pub partly_small : k < 4 → v < 128 ^ 3
-    partly_small h = omega (arith, p.small, pow-le-pow_right {n = 128} (omega arith) {i = k} {j = 3} (omega arith))
+    pub partly_small : i < at + 4 → v < 128 ^ 3
+    partly_small h = omega (arith, p.small, pow-le-pow_right {n = 128} (omega arith) {i = i - at} {j = 3} (omega arith))
 
     pub partly_past : length bs ≤ i → Agrees (NumberIs bs at) (number (drop at bs)) none
-    partly_past h = both_none _ (sym p.left ∙ rw (drop_of_length-le bs h) (number_nothing (4 - k) v))
+    partly_past h = both_none _ (sym p.left ∙ rw (drop_of_length-le bs h) (number_nothing (at + 4 - i) v))
 
-    pub partly_long : 4 ≤ k → Agrees (NumberIs bs at) (number (drop at bs)) none
+    pub partly_long : at + 4 ≤ i → Agrees (NumberIs bs at) (number (drop at bs)) none
     unfolding number_in
     partly_long h =
-        let all : 4 - k ≡ 0 = omega (arith, p.bytes) in
+        let all : at + 4 - i ≡ 0 = omega arith in
         both_none _ (rw all at (sym p.left))
 
-    pub partly_last : k < 4 → i < length bs → get_or bs i 0 < 128
+    pub partly_last : i < at + 4 → i < length bs → get_or bs i 0 < 128
         → Agrees (NumberIs bs at) (number (drop at bs)) (some (record { value = v * 128 + get_or bs i 0; next = i + 1 }))
     unfolding number_in
     partly_last h lt b =
-        let turn : 4 - k ≡ suc (3 - k) = omega arith in
+        let turn : at + 4 - i ≡ suc (at + 3 - i) = omega arith in
         both_some _ (front (v * 128 + get_or bs i 0) (drop (i + 1) bs))
         (sym p.left ∙ rw (turn, drop-cons bs i 0 lt) (rw (lt-ltb _ _ b, add-one)))
-        (record { value = refl; behind = record { rest = refl; ahead = omega (arith, p.place); within = omega arith } })
+        (record { value = refl; behind = record { rest = refl; ahead = omega (arith, p.ahead); within = omega arith } })
 
-    pub partly_more : k < 4 → i < length bs → 128 ≤ get_or bs i 0 → get_or bs i 0 < 256 → Partly bs at (v * 128 + (get_or bs i 0 - 128)) (i + 1) (k + 1)
+    pub partly_more : i < at + 4 → i < length bs → 128 ≤ get_or bs i 0 → get_or bs i 0 < 256 → Partly bs at (v * 128 + (get_or bs i 0 - 128)) (i + 1)
     unfolding number_in
     partly_more h lt b top =
-        let turn : 4 - k ≡ suc (4 - (k + 1)) = omega arith in
-        let next : number_in (4 - k) v (drop i bs) ≡ number_in (4 - (k + 1)) (v * 128 + (get_or bs i 0 - 128)) (drop (i + 1) bs) =
+        let turn : at + 4 - i ≡ suc (at + 4 - (i + 1)) = omega arith in
+        let next : number_in (at + 4 - i) v (drop i bs) ≡ number_in (at + 4 - (i + 1)) (v * 128 + (get_or bs i 0 - 128)) (drop (i + 1) bs) =
         rw (turn, drop-cons bs i 0 lt) (rw (le-ltb _ _ b, add-one i)) in
-        let power : 128 ^ (k + 1) ≡ 128 ^ k * 128 = rw add-one (pow-suc 128 k) in
+        let step : i + 1 - at ≡ suc (i - at) = omega (arith, p.ahead) in
+        let power : 128 ^ (i + 1 - at) ≡ 128 ^ (i - at) * 128 = rw step (pow-suc 128 (i - at)) in
         record {
           bytes = omega arith;
-          place = omega (arith, p.place);
-          within = omega arith;
+          ahead = omega (arith, p.ahead);
           small = omega (arith, p.small);
           left = sym next ∙ p.left;
         }
@@ -123,23 +139,24 @@ module _ (bs : List ℕ) (at : ℕ) where
       → sized (drop at bs) ≡ bytes_of q.value (drop q.next bs)
   bytes_behind q n e p = rw (e, p.value, ← p.behind.rest)
 
-  pub span_broken : Agrees (NumberIs bs at) (number (drop at bs)) none → Agrees (SpanIs bs at) (sized (drop at bs)) none
-  span_broken h = both_none _ (rw (agrees_none _ _ h))
+  pub span_broken : {r : std.Option Quantity} → r ≡ None → Agrees (NumberIs bs at) (number (drop at bs)) (found r)
+      → Agrees (SpanIs bs at) (sized (drop at bs)) none
+  span_broken is h = both_none _ (rw (nothing _ is h))
 
-  module _ (q : Quantity) (h : Agrees (NumberIs bs at) (number (drop at bs)) (some q)) where
+  module _ {q : Quantity} {r : std.Option Quantity} (is : r ≡ Some q) (h : Agrees (NumberIs bs at) (number (drop at bs)) (found r)) where
     pub number_behind : (at < q.next) × (q.next ≤ length bs)
-    number_behind = found_by _ h λ n e p. (p.behind.ahead, p.behind.within)
+    number_behind = found_by _ is h λ n e p. (p.behind.ahead, p.behind.within)
 
     pub span_short : length bs - q.next < q.value → Agrees (SpanIs bs at) (sized (drop at bs)) none
     unfolding bytes_of
-    span_short lt = found_by _ h λ n e p. both_none _ (bytes_behind q n e p ∙ rw (length-drop, lt-leb _ _ lt))
+    span_short lt = found_by _ is h λ n e p. both_none _ (bytes_behind q n e p ∙ rw (length-drop, lt-leb _ _ lt))
 
     pub span_whole : q.value ≤ length bs - q.next
         → Agrees (SpanIs bs at) (sized (drop at bs)) (some (record { from = q.next; to = q.next + q.value }))
     unfolding bytes_of
     span_whole le =
         let size : q.next + q.value - q.next ≡ q.value = omega arith in
-        found_by _ h λ n e p.
+        found_by _ is h λ n e p.
         both_some _ (front (take q.value (drop q.next bs)) (drop q.value (drop q.next bs)))
         (bytes_behind q n e p ∙ rw (length-drop, le-leb _ _ le))
         (record {
@@ -152,8 +169,8 @@ module _ (bs : List ℕ) (at : ℕ) where
           };
         })
 
-  pub span_within : (d : Span) → Agrees (SpanIs bs at) (sized (drop at bs)) (some d) → (d.from ≤ d.to) × (d.to ≤ length bs)
-  span_within d h = found_by _ h λ a e p. (p.from, p.behind.within)
+  pub span_within : {d : Span} {r : std.Option Span} → r ≡ Some d → Agrees (SpanIs bs at) (sized (drop at bs)) (found r) → (d.from ≤ d.to) × (d.to ≤ length bs)
+  span_within is h = found_by _ is h λ a e p. (p.from, p.behind.within)
 
 -- ---- channel messages
 
@@ -243,11 +260,12 @@ module _ (bs : List ℕ) (at kind : ℕ) (byte : kind ≡ get_or bs at 256) wher
       (by_le (length bs) at))
 
   module _ (low : kind ≤ 127) where
-    pub meta_broken : Agrees (SpanIs bs (at + 1)) (sized (drop (at + 1) bs)) none → Agrees (MessageIs bs at) (meta_message (drop at bs)) none
+    pub meta_broken : {r : std.Option Span} → r ≡ None → Agrees (SpanIs bs (at + 1)) (sized (drop (at + 1) bs)) (found r)
+        → Agrees (MessageIs bs at) (meta_message (drop at bs)) none
     unfolding meta_message
-    meta_broken h = both_none _ (rw (drop_byte bs at (omega arith), ← byte) (rw (lt-ltb kind 128 (omega arith), agrees_none _ _ h)))
+    meta_broken is h = both_none _ (rw (drop_byte bs at (omega arith), ← byte) (rw (lt-ltb kind 128 (omega arith), nothing _ is h)))
 
-    module _ (d : Span) (h : Agrees (SpanIs bs (at + 1)) (sized (drop (at + 1) bs)) (some d)) where
+    module _ {d : Span} {r : std.Option Span} (is : r ≡ Some d) (h : Agrees (SpanIs bs (at + 1)) (sized (drop (at + 1) bs)) (found r)) where
       -- the data's length decides
       meta_by : (a : Front (List ℕ)) → sized (drop (at + 1) bs) ≡ some a → SpanIs bs (at + 1) a d
           → meta_message (drop at bs) ≡ cond (meta_fits kind (d.to - d.from)) (some (front (meta kind a.read) a.rest)) none
@@ -257,16 +275,16 @@ module _ (bs : List ℕ) (at kind : ℕ) (byte : kind ≡ get_or bs at 256) wher
           rw (drop_byte bs at (omega arith), ← byte) (rw (lt-ltb kind 128 (omega arith), e) (rw size))
 
       pub meta_unfit : meta_fits kind (d.to - d.from) ≡ false → Agrees (MessageIs bs at) (meta_message (drop at bs)) none
-      meta_unfit unfit = found_by _ h λ a e p. both_none _ (meta_by a e p ∙ rw unfit)
+      meta_unfit unfit = found_by _ is h λ a e p. both_none _ (meta_by a e p ∙ rw unfit)
 
-      pub meta_read : meta_fits kind (d.to - d.from) ≡ true → (w : ℕ) → w ≡ meta_word kind (take (d.to - d.from) (drop d.from bs))
+      pub meta_read : meta_fits kind (d.to - d.from) ≡ true → {w : ℕ} → w ≡ meta_word kind (take (d.to - d.from) (drop d.from bs))
           → Agrees (MessageIs bs at) (meta_message (drop at bs))
           (some (record { word = w; good = well_formed w; ends = eqb kind 47; running = 0; next = d.to }))
-      meta_read fit w is =
-          found_by _ h λ a e p.
+      meta_read fit {w} word =
+          found_by _ is h λ a e p.
           both_some _ (front (meta kind a.read) a.rest) (meta_by a e p ∙ rw fit)
           (record {
-            word = rw p.is is;
+            word = rw p.is word;
             good = refl;
             ends = refl;
             running = refl;
@@ -275,16 +293,17 @@ module _ (bs : List ℕ) (at kind : ℕ) (byte : kind ≡ get_or bs at 256) wher
           })
 
 module _ (bs : List ℕ) (s at : ℕ) where
-  pub system_broken : Agrees (SpanIs bs at) (sized (drop at bs)) none → Agrees (MessageIs bs at) (system_message s (drop at bs)) none
+  pub system_broken : {r : std.Option Span} → r ≡ None → Agrees (SpanIs bs at) (sized (drop at bs)) (found r)
+      → Agrees (MessageIs bs at) (system_message s (drop at bs)) none
   unfolding system_message
-  system_broken h = both_none _ (rw (agrees_none _ _ h))
+  system_broken is h = both_none _ (rw (nothing _ is h))
 
-  pub system_read : (d : Span) → Agrees (SpanIs bs at) (sized (drop at bs)) (some d)
+  pub system_read : {d : Span} {r : std.Option Span} → r ≡ Some d → Agrees (SpanIs bs at) (sized (drop at bs)) (found r)
       → Agrees (MessageIs bs at) (system_message s (drop at bs))
       (some (record { word = 16777216; good = true; ends = false; running = 0; next = d.to }))
   unfolding system_message
-  system_read d h =
-      found_by _ h λ a e p.
+  system_read is h =
+      found_by _ is h λ a e p.
       both_some _ (front (system s a.read) a.rest) (rw e)
       (record { word = refl; good = sym word_plain.1; ends = refl; running = refl; status = inl refl; behind = p.behind })
 
@@ -338,29 +357,31 @@ from_status bs at =
     })
 
 -- a system event of F0, behind its status
-pub system_first : (bs : List ℕ) (running at s : ℕ) (t : Option Taken) → s ≡ 240 → s ≡ get_or bs at 256
+pub system_first : (bs : List ℕ) (running at s : ℕ) (t : Option Taken) → s ≡ 240 → at < length bs → s ≡ get_or bs at 0
     → Agrees (MessageIs bs (at + 1)) (system_message s (drop (at + 1) bs)) t → Agrees (MessageIs bs at) (message running (drop at bs)) t
-system_first bs running at s t e byte h = rw (by_system bs running at s byte (omega arith) (omega arith) (inl e)) (from_status bs at _ t h)
+system_first bs running at s t e lt byte h =
+    rw (by_system bs running at s (byte ∙ get_d_any bs at 0 256 lt) (omega arith) (omega arith) (inl e)) (from_status bs at _ t h)
 
 -- ---- events with their delta
 
 module _ (bs : List ℕ) (running at : ℕ) where
-  pub event_late : Agrees (NumberIs bs at) (number (drop at bs)) none → Agrees (EventIs bs at) (timed_message running (drop at bs)) none
+  pub event_late : {r : std.Option Quantity} → r ≡ None → Agrees (NumberIs bs at) (number (drop at bs)) (found r)
+      → Agrees (EventIs bs at) (timed_message running (drop at bs)) none
   unfolding timed_message
-  event_late h = both_none _ (rw (agrees_none _ _ h))
+  event_late is h = both_none _ (rw (nothing _ is h))
 
-  module _ (q : Quantity) (h : Agrees (NumberIs bs at) (number (drop at bs)) (some q)) where
-    pub event_broken : Agrees (MessageIs bs q.next) (message running (drop q.next bs)) none
+  module _ {q : Quantity} {r : std.Option Quantity} (is : r ≡ Some q) (h : Agrees (NumberIs bs at) (number (drop at bs)) (found r)) where
+    pub event_broken : {m : std.Option Taken} → m ≡ None → Agrees (MessageIs bs q.next) (message running (drop q.next bs)) (found m)
         → Agrees (EventIs bs at) (timed_message running (drop at bs)) none
     unfolding timed_message
-    event_broken k = found_by _ h λ n e p. both_none _ (rw e (rw (p.behind.rest, agrees_none _ _ k)))
+    event_broken late k = found_by _ is h λ n e p. both_none _ (rw e (rw (p.behind.rest, nothing _ late k)))
 
-    pub event_read : (t : Taken) → Agrees (MessageIs bs q.next) (message running (drop q.next bs)) (some t)
+    pub event_read : {m : std.Option Taken} {t : Taken} → m ≡ Some t → Agrees (MessageIs bs q.next) (message running (drop q.next bs)) (found m)
         → Agrees (EventIs bs at) (timed_message running (drop at bs)) (some (record { delta = q.value; event = t }))
     unfolding timed_message
-    event_read t k =
-        found_by _ h λ n e p.
-        found_by _ k λ m f b.
+    event_read taken k =
+        found_by _ is h λ n e p.
+        found_by _ taken k λ m f b.
         both_some _ (front (timed_by n.read m.read) m.rest) (rw e (rw (p.behind.rest, f)))
         (record {
           delta = p.value;

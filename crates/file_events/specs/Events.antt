@@ -1,5 +1,6 @@
 -- How what the program reads goes together with what the definition reads. bs is the whole track, and the definition reads from position `at` on.
-use Rattle.std.specs.Prelude.{ℕ, ◌-◌, ◌≤◌, ◌<◌, true, false, List, ◌⊎◌, ◌≡◌, length, take, drop}
+use Rattle.std.specs.Prelude.{ℕ, ◌-◌, ◌≤◌, ◌<◌, true, false, List, ◌⊎◌, ◌≡◌, length, take, drop, None, Some}
+use Rattle.std.specs.Prelude as std
 use Rattle.std.proofs.Math.Option.{Option, none, some}
 use Rattle.rules.specs.Piece.{well_formed}
 use Rattle.rules.specs.Standard.{Message, channel}
@@ -8,10 +9,11 @@ use Rattle.file_events.specs.declared.Quantity.{Quantity}
 use Rattle.file_events.specs.declared.Span.{Span}
 use Rattle.file_events.specs.declared.Taken.{Taken}
 use Rattle.file_events.specs.declared.TimedEvent.{TimedEvent}
-use Rattle.file_events.specs.declared.Number as number
-use Rattle.file_events.specs.declared.Data as span
-use Rattle.file_events.specs.declared.MessageRead as messages
-use Rattle.file_events.specs.declared.EventRead as events
+
+-- what the program finds, in the words of the definition
+abbrev pub found : {A : Type 0} → std.Option A → Option A
+found None = none
+found (Some a) = some a
 
 -- what stands behind position `at`, up to where
 pub record Behind (bs : List ℕ) (at : ℕ) (left : List ℕ) (next : ℕ) : Type 0 where
@@ -25,9 +27,8 @@ pub record NumberIs (bs : List ℕ) (at : ℕ) (n : Front ℕ) (q : Quantity) : 
   pub value : q.value ≡ n.read
   pub behind : Behind bs at n.rest q.next
 
-abbrev pub number_read : number.Number → Option Quantity
-number_read number.TheVariants.Broken = none
-number_read (number.TheVariants.Read q) = some q
+abbrev pub number_read : std.Option Quantity → Option Quantity
+number_read = found
 
 -- ---- data
 
@@ -36,9 +37,8 @@ pub record SpanIs (bs : List ℕ) (at : ℕ) (d : Front (List ℕ)) (s : Span) :
   pub from : s.from ≤ s.to
   pub behind : Behind bs at d.rest s.to
 
-abbrev pub span_read : span.Data → Option Span
-span_read span.TheVariants.Broken = none
-span_read (span.TheVariants.Read s) = some s
+abbrev pub span_read : std.Option Span → Option Span
+span_read = found
 
 -- ---- events
 
@@ -63,9 +63,8 @@ pub record MessageIs (bs : List ℕ) (at : ℕ) (m : Front Message) (t : Taken) 
   pub status : Status t.running
   pub behind : Behind bs at m.rest t.next
 
-abbrev pub message_read : messages.MessageRead → Option Taken
-message_read messages.TheVariants.Broken = none
-message_read (messages.TheVariants.Read t) = some t
+abbrev pub message_read : std.Option Taken → Option Taken
+message_read = found
 
 pub record EventIs (bs : List ℕ) (at : ℕ) (e : Front Timed) (t : TimedEvent) : Type 0 where
   pub delta : t.delta ≡ e.read.delta
@@ -76,6 +75,5 @@ pub record EventIs (bs : List ℕ) (at : ℕ) (e : Front Timed) (t : TimedEvent)
   pub status : Status t.event.running
   pub behind : Behind bs at e.rest t.event.next
 
-abbrev pub event_read : events.EventRead → Option TimedEvent
-event_read events.TheVariants.Broken = none
-event_read (events.TheVariants.Read t) = some t
+abbrev pub event_read : std.Option TimedEvent → Option TimedEvent
+event_read = found

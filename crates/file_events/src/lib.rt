@@ -9,7 +9,6 @@ ghost use Rattle.laws.specs.Parsed.{Agrees};
 ghost use Rattle.file_events.specs.Events.{NumberIs, number_read, SpanIs, span_read, Status, ChannelStatus, channel_taken};
 ghost use Rattle.file_events.specs.Events.{MessageIs, message_read, EventIs, event_read};
 
-use basics::size;
 use track_events::well_formed;
 
 // A variable-length quantity, and where the bytes behind it start.
@@ -19,23 +18,11 @@ pub struct Quantity {
     pub next: usize,
 }
 
-#[derive(Clone, Copy)]
-pub enum Number {
-    Broken,
-    Read(Quantity),
-}
-
 // Data of a meta or system event: from where, and where the bytes behind it start.
 #[derive(Clone, Copy)]
 pub struct Span {
     pub from: usize,
     pub to: usize,
-}
-
-#[derive(Clone, Copy)]
-pub enum Data {
-    Broken,
-    Read(Span),
 }
 
 // What is taken of an event: its word, whether that is in the table of kinds, whether it is an End of Track, the running status behind it (0: none), and
@@ -49,12 +36,6 @@ pub struct Taken {
     pub next: usize,
 }
 
-#[derive(Clone, Copy)]
-pub enum MessageRead {
-    Broken,
-    Read(Taken),
-}
-
 // An event with its delta.
 #[derive(Clone, Copy)]
 pub struct TimedEvent {
@@ -62,70 +43,38 @@ pub struct TimedEvent {
     pub event: Taken,
 }
 
-#[derive(Clone, Copy)]
-pub enum EventRead {
-    Broken,
-    Read(TimedEvent),
-}
-
-// A byte as a number of 32 bits.
-pub fn wide(b: u8) -> u32
-    ensures { result ≡ b }
-{
-    b as u32
-}
-
-// A byte; 256 where there is none.
-fn byte_at(bytes: &[u8], at: usize) -> u32
-    ensures { result ≡ get_or bytes.now at 256 }
-{
-    if at < bytes.len() {
-        return wide(bytes[at]);
-    }
-    256
-}
-
 // A variable-length quantity of at most four bytes.
 #[tactic(auto, using(crate::proofs::Laws::partly_last))]
-fn read_number(bytes: &[u8], at: usize) -> Number
+fn read_number(bytes: &[u8], at: usize) -> Option<Quantity>
     requires { at ≤ length bytes.now }
     ensures { Agrees (NumberIs bytes.now at) (number (drop at bytes.now)) (number_read result) }
 {
     let mut value: u32 = 0;
-    let mut i = at;
-    let mut k: u32 = 0;
-    while k < 4 {
-        if bytes.len() <= i {
-            return Number::Broken;
-        }
-        let b = wide(bytes[i]);
-        i += 1;
+    for i in at..at + 4 {
+        let b = u32::from(*bytes.get(i)?);
         if b < 128 {
-            return Number::Read(Quantity {
+            return Some(Quantity {
                 value: value * 128 + b,
-                next: i,
+                next: i + 1,
             });
         }
         value = value * 128 + (b - 128);
-        k += 1;
     }
-    Number::Broken
+    None
 }
 
 // A length, and as many bytes.
-fn read_data(bytes: &[u8], at: usize) -> Data
+fn read_data(bytes: &[u8], at: usize) -> Option<Span>
     requires { at ≤ length bytes.now }
     ensures { Agrees (SpanIs bytes.now at) (sized (drop at bytes.now)) (span_read result) }
 {
-    let Number::Read(n) = read_number(bytes, at) else {
-        return Data::Broken;
-    };
+    let n = read_number(bytes, at)?;
     let from = n.next;
-    let length = size(n.value);
+    let length = n.value as usize;
     if bytes.len() - from < length {
-        return Data::Broken;
+        return None;
     }
-    Data::Read(Span {
+    Some(Span {
         from,
         to: from + length,
     })
@@ -135,11 +84,7 @@ fn read_data(bytes: &[u8], at: usize) -> Data
 fn has_one_byte(status: u32) -> bool
     ensures { result ≡ has_one_byte status }
 {
-    let kind = status / 16;
-    if kind == 12 {
-        return true;
-    }
-    kind == 13
+    matches!(status / 16, 12 | 13)
 }
 
 // What is taken of a channel message.
@@ -157,22 +102,22 @@ fn channel_taken(status: u32, x: u32, y: u32, next: usize) -> Taken
 }
 
 // A channel message behind its status.
-fn channel_message(bytes: &[u8], status: u32, at: usize) -> MessageRead
+fn channel_message(bytes: &[u8], status: u32, at: usize) -> Option<Taken>
     requires { ChannelStatus status × (at ≤ length bytes.now) }
     ensures { Agrees (MessageIs bytes.now at) (channel_message status (drop at bytes.now)) (message_read result) }
 {
-    let x = byte_at(bytes, at);
+    let x = u32::from(*bytes.get(at)?);
     if 127 < x {
-        return MessageRead::Broken;
+        return None;
     }
     if has_one_byte(status) {
-        return MessageRead::Read(channel_taken(status, x, 0, at + 1));
+        return Some(channel_taken(status, x, 0, at + 1));
     }
-    let y = byte_at(bytes, at + 1);
+    let y = u32::from(*bytes.get(at + 1)?);
     if 127 < y {
-        return MessageRead::Broken;
+        return None;
     }
-    MessageRead::Read(channel_taken(status, x, y, at + 2))
+    Some(channel_taken(status, x, y, at + 2))
 }
 
 // Whether a meta event of this type may have data of this length.
@@ -195,19 +140,7 @@ fn is_marker(content: &[u8]) -> bool
     if content.len() != 7 {
         return false;
     }
-    if content[0] != 65 {
-        return false;
-    }
-    if content[1] != 67 {
-        return false;
-    }
-    if content[2] != 82 {
-        return false;
-    }
-    if content[3] != 68 {
-        return false;
-    }
-    content[4] == 49
+    content.starts_with(b"ACRD1")
 }
 
 // A word of a kind and two bytes, the third 0.
@@ -215,7 +148,7 @@ fn word_of_two(kind: u32, a: u8, b: u8) -> u32
     requires { kind ≤ 255 }
     ensures { result ≡ word kind a b 0 }
 {
-    kind * 16777216 + wide(a) * 65536 + wide(b) * 256
+    kind * 16777216 + u32::from(a) * 65536 + u32::from(b) * 256
 }
 
 // A meta event's word.
@@ -227,7 +160,7 @@ fn meta_word(kind: u32, content: &[u8]) -> u32
         return 6 * 16777216;
     }
     if kind == 81 {
-        return word_of_two(2, content[0], content[1]) + wide(content[2]);
+        return word_of_two(2, content[0], content[1]) + u32::from(content[2]);
     }
     if kind == 88 {
         return word_of_two(3, content[0], content[1]);
@@ -245,24 +178,22 @@ fn meta_word(kind: u32, content: &[u8]) -> u32
 }
 
 // A meta event behind FF: its type, its length, its data. It cancels running status.
-fn meta_message(bytes: &[u8], at: usize) -> MessageRead
+fn meta_message(bytes: &[u8], at: usize) -> Option<Taken>
     requires { at ≤ length bytes.now }
     ensures { Agrees (MessageIs bytes.now at) (meta_message (drop at bytes.now)) (message_read result) }
 {
-    let kind = byte_at(bytes, at);
+    let kind = u32::from(*bytes.get(at)?);
     if 127 < kind {
-        return MessageRead::Broken;
+        return None;
     }
-    let Data::Read(span) = read_data(bytes, at + 1) else {
-        return MessageRead::Broken;
-    };
+    let span = read_data(bytes, at + 1)?;
     let from = span.from;
     let to = span.to;
     if !meta_fits(kind, to - from) {
-        return MessageRead::Broken;
+        return None;
     }
     let word = meta_word(kind, &bytes[from..to]);
-    MessageRead::Read(Taken {
+    Some(Taken {
         word,
         good: well_formed(word),
         ends: kind == 47,
@@ -272,15 +203,13 @@ fn meta_message(bytes: &[u8], at: usize) -> MessageRead
 }
 
 // A system event behind F0 or F7: its length, its data. It cancels running status.
-fn system_message(bytes: &[u8], status: u32, at: usize) -> MessageRead
+fn system_message(bytes: &[u8], status: u32, at: usize) -> Option<Taken>
     requires { at ≤ length bytes.now }
     ensures { Agrees (MessageIs bytes.now at) (system_message status (drop at bytes.now)) (message_read result) }
 {
-    let Data::Read(span) = read_data(bytes, at) else {
-        return MessageRead::Broken;
-    };
+    let span = read_data(bytes, at)?;
     let running = 0;
-    MessageRead::Read(Taken {
+    Some(Taken {
         word: 16777216,
         good: true,
         ends: false,
@@ -291,14 +220,14 @@ fn system_message(bytes: &[u8], status: u32, at: usize) -> MessageRead
 
 // An event behind its delta. A first byte below 128 is data under the running status.
 #[tactic(auto, using(crate::proofs::Laws::system_first))]
-fn read_message(bytes: &[u8], running: u32, at: usize) -> MessageRead
+fn read_message(bytes: &[u8], running: u32, at: usize) -> Option<Taken>
     requires { Status running × (at ≤ length bytes.now) }
     ensures { Agrees (MessageIs bytes.now at) (message running (drop at bytes.now)) (message_read result) }
 {
-    let s = byte_at(bytes, at);
+    let s = u32::from(*bytes.get(at)?);
     if s < 128 {
         if running == 0 {
-            return MessageRead::Broken;
+            return None;
         }
         return channel_message(bytes, running, at);
     }
@@ -314,21 +243,17 @@ fn read_message(bytes: &[u8], running: u32, at: usize) -> MessageRead
     if s == 247 {
         return system_message(bytes, s, at + 1);
     }
-    MessageRead::Broken
+    None
 }
 
 // An event with its delta.
-pub fn read_event(bytes: &[u8], running: u32, at: usize) -> EventRead
+pub fn read_event(bytes: &[u8], running: u32, at: usize) -> Option<TimedEvent>
     requires { Status running × (at ≤ length bytes.now) }
     ensures { Agrees (EventIs bytes.now at) (timed_message running (drop at bytes.now)) (event_read result) }
 {
-    let Number::Read(delta) = read_number(bytes, at) else {
-        return EventRead::Broken;
-    };
-    let MessageRead::Read(event) = read_message(bytes, running, delta.next) else {
-        return EventRead::Broken;
-    };
-    EventRead::Read(TimedEvent {
+    let delta = read_number(bytes, at)?;
+    let event = read_message(bytes, running, delta.next)?;
+    Some(TimedEvent {
         delta: delta.value,
         event,
     })

@@ -30,12 +30,12 @@ bounds-content-2 c =
 pub overflow_add-result : goal.overflow_add-result
 overflow_add-result c =
     let bytes = c.type_inv.content in
-    omega (arith, c.word_of_two.ensures, c.wide.ensures, bytes 0, bytes 1, bytes 2)
+    omega (arith, c.word_of_two.ensures, c.from.ensures, bytes 0, bytes 1, bytes 2)
 
 pub returns-then-kind-eq81 : goal.returns-then-kind-eq81
 unfolding meta_word
 returns-then-kind-eq81 c =
-    rw c.if-kind-eq81.true (omega (arith, c.word_of_two.ensures, c.wide.ensures))
+    rw c.if-kind-eq81.true (omega (arith, c.word_of_two.ensures, c.from.ensures))
 
 pub bounds-content-0-then-kind-eq88 : goal.bounds-content-0-then-kind-eq88
 bounds-content-0-then-kind-eq88 c =

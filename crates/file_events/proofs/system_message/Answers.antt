@@ -2,9 +2,8 @@
 use Rattle.file_events.proofs.Laws.{system_broken, system_read}
 use Rattle.file_events.proofs.system_message.Goals as goal
 
-pub returns-in_default : goal.returns-in_default
-returns-in_default c = system_broken _ _ _ (rw c.in_default.is at c.read_data.ensures)
+pub returns-in_err-span : goal.returns-in_err-span
+returns-in_err-span c = rw c.from_residual.ensures (system_broken _ _ _ c.in_err-span.was c.read_data.ensures)
 
 pub returns : goal.returns
-returns c =
-    system_read _ _ _ c.in-Read.span (rw c.in-Read.is at c.read_data.ensures)
+returns c = system_read _ _ _ c.in_ok-span.was c.read_data.ensures
