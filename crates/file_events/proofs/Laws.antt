@@ -34,14 +34,17 @@ use Rattle.file_events.specs.Events.{found, NumberIs, SpanIs, ChannelStatus, cha
 
 module _ {A B : Type 0} where
   -- what the program finds, the definition finds
+  pub something : (P : A → B → Type 0) {o : Option A} {r : std.Option B} {b : B} → r ≡ Some b → Agrees P o (found r) → (a : A) × (o ≡ some a) × P a b
+  something P {o} {r} {b} is h = agrees_some P o b (rw is at h)
+
   found_by : (P : A → B → Type 0) {C : Type 0} {o : Option A} {r : std.Option B} {b : B} → r ≡ Some b → Agrees P o (found r)
       → ((a : A) → o ≡ some a → P a b → C) → C
   found_by P {C} {o} {r} {b} is h f =
-      let both = agrees_some P o b (rw is at h) in
+      let both = something P is h in
       f both.0 both.1 both.2
 
   -- where the program finds nothing, nor does the definition
-  nothing : (P : A → B → Type 0) {o : Option A} {r : std.Option B} → r ≡ None → Agrees P o (found r) → o ≡ none
+  pub nothing : (P : A → B → Type 0) {o : Option A} {r : std.Option B} → r ≡ None → Agrees P o (found r) → o ≡ none
   nothing P {o} {r} is h = agrees_none P o (rw is at h)
 
   weaker : (P Q : A → B → Type 0) → ((a : A) (b : B) → P a b → Q a b) → (o : Option A) (o' : Option B) → Agrees P o o' → Agrees Q o o'

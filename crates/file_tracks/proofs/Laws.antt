@@ -11,6 +11,9 @@ use borrow.Author.Tests.{lt-ltb, le-ltb, le-leb, lt-leb, ltb-true, ltb-false, eq
 use lib.Dec.{ltb, eqb}
 use lib.ListN.{length, get_or, take, drop, set, length-append, length-take, length-drop, length-map, drop_of_length-le}
 use lib.Seq.{take-nil, take_all, take-append-le, append_snoc, drop-cons, take-add, drop-drop}
+use Rattle.std.specs.Prelude as std
+use Rattle.std.specs.Prelude.{Some}
+use Rattle.std.specs.Bool.{then_some}
 use Rattle.rules.specs.Lists.{every, written, is_empty}
 use Rattle.rules.specs.Standard.{big_endian}
 use Rattle.rules.specs.Piece.{well_formed}
@@ -27,7 +30,6 @@ use Rattle.file_events.specs.declared.TimedEvent.{TimedEvent}
 use Rattle.file_events.specs.Events.{EventIs}
 use Rattle.file_tracks.specs.declared.Gathered.{Gathered}
 use Rattle.file_tracks.specs.declared.Chunk as place
-use Rattle.file_tracks.specs.declared.Gathering as gathering
 use Rattle.file_tracks.specs.Gathering.{gathered_read, Grown, fitted, stored, EventsHeld, TracksHeld, ChunkIs, chunk_tracks}
 use Rattle.laws.proofs.Lists.{flatten_append}
 
@@ -75,7 +77,7 @@ module _ (es : List Timed) (e : Timed) (g h : Gathered) (ds ws d w : List ℕ) (
       let n : g.events ≡ length (words_of es) = held.count ∙ sym (length-map es (λ (t : Timed). word_of t.message)) in
       rw (n, held.words, map-append (λ (t : Timed). word_of t.message) es (e ∷ [])) (fitted_more (words_of es) ws (word_of e.message))
 
-  pub event_more : h.events ≡ g.events + 1 → eqb h.bad 0 ≡ eqb g.bad 0 && well_formed (word_of e.message)
+  pub event_more : h.events ≡ g.events + 1 → h.good ≡ g.good && well_formed (word_of e.message)
       → EventsHeld (es ++ (e ∷ [])) h ds ws (stored d g.events e.delta) (stored w g.events (word_of e.message))
   event_more c k =
       record {
@@ -88,7 +90,7 @@ module _ (es : List Timed) (e : Timed) (g h : Gathered) (ds ws d w : List ℕ) (
 
 -- the same of an event as it was read
 pub event_put : (bs : List ℕ) (at : ℕ) (e : Front Timed) (t : TimedEvent) (es : List Timed) (g h : Gathered) (ds ws d w d₁ w₁ : List ℕ)
-    → EventIs bs at e t → EventsHeld es g ds ws d w → h.events ≡ g.events + 1 → eqb h.bad 0 ≡ eqb g.bad 0 && t.event.good
+    → EventIs bs at e t → EventsHeld es g ds ws d w → h.events ≡ g.events + 1 → h.good ≡ g.good && t.event.good
     → d₁ ≡ stored d g.events t.delta → w₁ ≡ stored w g.events t.event.word → EventsHeld (es ++ (e.read ∷ [])) h ds ws d₁ w₁
 event_put bs at e t es g h ds ws d w d₁ w₁ is held c k f i =
     rw (f, i, is.delta, is.word) (event_more es e.read g h ds ws d w held c (k ∙ rw (is.good, is.word)))
@@ -178,13 +180,13 @@ module _ (body : List ℕ) (es : List Timed) (g : Gathered) (running at : ℕ) (
             held = held_more;
           }
 
-      pub progress_end : (o : Option Gathered) → t.event.ends ≡ true → o ≡ cond (eqb t.event.next (length body)) (some h) none
-          → Agrees (λ (t : List Timed) (h : Gathered). Held h d₁ w₁ t) (track_of body) o
-      progress_end o k a =
+      pub progress_end : t.event.ends ≡ true
+          → Agrees (λ (t : List Timed) (h : Gathered). Held h d₁ w₁ t) (track_of body) (gathered_read (then_some (eqb t.event.next (length body)) h))
+      progress_end k =
           let ends = track_end body p.done running at p.left e t.event.next r is.behind.rest is.behind.within (sym is.ends ∙ k) in
           elim (by_bool (eqb t.event.next (length body))) [
-            | inl q ↦ rw (a, q) (both_some _ _ (rw q at ends) held_more)
-            | inr q ↦ rw (a, q) (both_none _ (rw q at ends))
+            | inl q ↦ rw q (both_some _ _ (rw q at ends) held_more)
+            | inr q ↦ rw q (both_none _ (rw q at ends))
           ]
 
 -- ---- one track more
@@ -194,7 +196,7 @@ unfolding flatten
 flatten_snoc xs x = flatten_append xs (x ∷ []) ∙ rw (append-nil x)
 
 pub track_put : (ts : List (List Timed)) (t : List Timed) (g h k : Gathered) (ss ds ws s d w s₁ d₁ w₁ : List ℕ) → TracksHeld ts g ss ds ws s d w
-    → EventsHeld (flatten ts ++ t) h ds ws d₁ w₁ → k.tracks ≡ g.tracks + 1 → k.events ≡ h.events → k.bad ≡ h.bad
+    → EventsHeld (flatten ts ++ t) h ds ws d₁ w₁ → k.tracks ≡ g.tracks + 1 → k.events ≡ h.events → k.good ≡ h.good
     → s₁ ≡ stored s g.tracks (h.events - g.events) → TracksHeld (ts ++ (t ∷ [])) k ss ds ws s₁ d₁ w₁
 track_put ts t g h k ss ds ws s d w s₁ d₁ w₁ held more a b e f =
     let n : g.tracks ≡ length (map length ts) = held.count ∙ sym (length-map ts length) in
@@ -205,16 +207,15 @@ track_put ts t g h k ss ds ws s d w s₁ d₁ w₁ held more a b e f =
       sizes = f ∙ rw (m, n, held.sizes, map-append length ts (t ∷ [])) (fitted_more (map length ts) ss (length t));
     }
 
--- what `ended` answers has grown as what it was given
-pub grown_ended : (r : gathering.Gathering) (last : Bool) (g h : Gathered) (n : ℕ) → gathered_read r ≡ cond last (some h) none
-    → g.events ≤ h.events → h.events ≤ g.events + n → h.tracks ≡ g.tracks → Grown g n 0 r
-grown_ended gathering.TheVariants.Broken last g h n e a b t = tt
-grown_ended (gathering.TheVariants.Read k) last g h n e a b t =
-    let same : k ≡ h = only last e in rw same (a, b, omega (arith, t))
-  where
-    only : (last : Bool) → some k ≡ cond last (some h) none → k ≡ h
-    only true e = cc
-    only false e = absurd (none-ne-some _ (sym e))
+pub grown_some : (g : Gathered) (n k : ℕ) {h : Gathered} {r : std.Option Gathered} → r ≡ Some h → Grown g n k r
+    → (g.events ≤ h.events) × (h.events ≤ g.events + n) × (h.tracks ≤ g.tracks + k)
+grown_some g n k is grown = rw is at grown
+
+-- what is answered at a track's end has grown as what was gathered
+pub grown_ended : (last : Bool) (g h : Gathered) (n : ℕ) → g.events ≤ h.events → h.events ≤ g.events + n → h.tracks ≡ g.tracks
+    → Grown g n 0 (then_some last h)
+grown_ended true g h n a b t = (a, b, omega (arith, t))
+grown_ended false g h n a b t = tt
 
 -- ---- chunks
 
@@ -328,7 +329,7 @@ pub record Chunks (bs : List ℕ) (start : ℕ) (g : Gathered) (at : ℕ) (ss ds
   pub left : tracks_of (drop start bs) ≡ prepend done (tracks_of (drop at bs))
   pub held : TracksHeld done g ss ds ws s d w
 
-pub chunks_start : (bs : List ℕ) (start : ℕ) (ss ds ws : List ℕ) → Chunks bs start (record { tracks = 0; events = 0; bad = 0 }) start ss ds ws ss ds ws
+pub chunks_start : (bs : List ℕ) (start : ℕ) (ss ds ws : List ℕ) → Chunks bs start (record { tracks = 0; events = 0; good = true }) start ss ds ws ss ds ws
 unfolding flatten every
 chunks_start bs start ss ds ws =
     record {

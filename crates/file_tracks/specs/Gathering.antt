@@ -1,5 +1,6 @@
 -- What lent arrays hold of the tracks gathered so far, and how the program's chunks go together with the definition's.
-use Rattle.std.specs.Prelude.{ℕ, ◌+◌, ◌-◌, ◌≤◌, cond, ◌≡◌, eqb, ltb, length, take, drop, set}
+use Rattle.std.specs.Prelude.{ℕ, ◌+◌, ◌-◌, ◌≤◌, cond, ◌≡◌, eqb, ltb, length, take, drop, set, None, Some}
+use Rattle.std.specs.Prelude as std
 use mathlib.Core.List.{List, [], ◌∷◌, map, flatten}
 use Rattle.std.proofs.Math.Option.{Option, none, some}
 use Rattle.rules.specs.Lists.{every, written}
@@ -7,8 +8,7 @@ use Rattle.rules.specs.Piece.{well_formed}
 use Rattle.rules.specs.File.{and_then, Front, Timed, deltas_of, words_of, track_of, Chunk, MThd, MTrk}
 use Rattle.file_tracks.specs.declared.Gathered.{Gathered}
 use Rattle.file_tracks.specs.declared.Chunk as place
-use Rattle.file_tracks.specs.declared.Gathering as gathering
-use Rattle.file_tracks.specs.declared.ChunkRead as chunks
+use Rattle.file_events.specs.Events.{found}
 
 -- ---- lent arrays
 
@@ -25,7 +25,7 @@ stored l n v = cond (ltb n (length l)) (set l n v) l
 -- the events es: counted, their words judged, their deltas and words stored in arrays that held ds and ws and now hold ds₁ and ws₁
 pub record EventsHeld (es : List Timed) (g : Gathered) (ds ws ds₁ ws₁ : List ℕ) : Type 0 where
   pub count : g.events ≡ length es
-  pub good : eqb g.bad 0 ≡ every well_formed (words_of es)
+  pub good : g.good ≡ every well_formed (words_of es)
   pub deltas : ds₁ ≡ fitted (deltas_of es) ds
   pub words : ws₁ ≡ fitted (words_of es) ws
 
@@ -35,14 +35,13 @@ pub record TracksHeld (ts : List (List Timed)) (g : Gathered) (ss ds ws ss₁ ds
   pub events : EventsHeld (flatten ts) g ds ws ds₁ ws₁
   pub sizes : ss₁ ≡ fitted (map length ts) ss
 
-abbrev pub gathered_read : gathering.Gathering → Option Gathered
-gathered_read gathering.TheVariants.Broken = none
-gathered_read (gathering.TheVariants.Read g) = some g
+abbrev pub gathered_read : std.Option Gathered → Option Gathered
+gathered_read = found
 
 -- how far the counts go: at most n events and k tracks more
-abbrev pub Grown : Gathered → ℕ → ℕ → gathering.Gathering → Type 0
-Grown g n k gathering.TheVariants.Broken = Unit {0}
-Grown g n k (gathering.TheVariants.Read h) = (g.events ≤ h.events) × (h.events ≤ g.events + n) × (h.tracks ≤ g.tracks + k)
+abbrev pub Grown : Gathered → ℕ → ℕ → std.Option Gathered → Type 0
+Grown g n k None = Unit {0}
+Grown g n k (Some h) = (g.events ≤ h.events) × (h.events ≤ g.events + n) × (h.tracks ≤ g.tracks + k)
 
 -- ---- chunks
 
@@ -55,9 +54,8 @@ pub record ChunkIs (bs : List ℕ) (at : ℕ) (c : Front Chunk) (h : place.Chunk
   pub from : h.from ≤ h.to
   pub within : h.to ≤ length bs
 
-abbrev pub chunk_read : chunks.ChunkRead → Option place.Chunk
-chunk_read chunks.TheVariants.Broken = none
-chunk_read (chunks.TheVariants.Read h) = some h
+abbrev pub chunk_read : std.Option place.Chunk → Option place.Chunk
+chunk_read = found
 
 -- the tracks that a chunk adds, by its type and its bytes
 abbrev pub chunk_tracks : ℕ → List ℕ → Option (List (List Timed))

@@ -10,26 +10,19 @@ ghost use Rattle.laws.specs.Parsed.{Agrees};
 ghost use Rattle.file_events.specs.Events.{EventIs};
 ghost use Rattle.file_tracks.specs.Gathering.{stored, EventsHeld, TracksHeld, Grown, gathered_read, ChunkIs, chunk_read, chunk_tracks};
 
-use basics::size;
-use file_events::{EventRead, TimedEvent, wide};
+use file_events::TimedEvent;
 
 // The letters MThd and MTrk, as numbers.
 pub const MTHD: u32 = 1297377380;
 
 const MTRK: u32 = 1297379947;
 
-// What was gathered: tracks and events counted; bad is 0 where every word is in the table of kinds, else 1.
+// What was gathered: tracks and events counted; good says whether every word is in the table of kinds.
 #[derive(Clone, Copy)]
 pub struct Gathered {
     pub tracks: usize,
     pub events: usize,
-    pub bad: usize,
-}
-
-#[derive(Clone, Copy)]
-pub enum Gathering {
-    Broken,
-    Read(Gathered),
+    pub good: bool,
 }
 
 // A chunk: its type, where its bytes start, and where those behind it start.
@@ -38,19 +31,6 @@ pub struct Chunk {
     pub kind: u32,
     pub from: usize,
     pub to: usize,
-}
-
-#[derive(Clone, Copy)]
-pub enum ChunkRead {
-    Broken,
-    Read(Chunk),
-}
-
-// One word more, in the table or not.
-fn noted(bad: usize, good: bool) -> usize
-    ensures { eqb result 0 ≡ (eqb bad 0 && good) }
-{
-    if good { bad } else { 1 }
 }
 
 // Stores an element, where there is room.
@@ -76,23 +56,17 @@ fn put_event(timed: TimedEvent, g: Gathered, deltas: &mut [u32], words: &mut [u3
     Gathered {
         tracks: g.tracks,
         events: g.events + 1,
-        bad: noted(g.bad, event.good),
-    }
-}
-
-// A track that ends here, if nothing stands behind its end.
-fn ended(last: bool, g: Gathered) -> Gathering
-    ensures { gathered_read result ≡ cond last (some g) none }
-{
-    if last {
-        Gathering::Read(g)
-    } else {
-        Gathering::Broken
+        good: g.good && event.good,
     }
 }
 
 // A track's events, behind those gathered before.
-fn read_track(body: &[u8], gathered: Gathered, deltas: &mut [u32], words: &mut [u32]) -> Gathering
+fn read_track(
+    body: &[u8],
+    gathered: Gathered,
+    deltas: &mut [u32],
+    words: &mut [u32],
+) -> Option<Gathered>
     requires { gathered.events + length body.now ≤ most_bytes }
     ensures grown { Grown gathered (length body.now) 0 result }
     ensures held { (ds ws : List ℕ) (es : List Timed) → EventsHeld es gathered ds ws deltas.old words.old
@@ -101,19 +75,18 @@ fn read_track(body: &[u8], gathered: Gathered, deltas: &mut [u32], words: &mut [
     let mut g = gathered;
     let mut running = 0;
     let mut at = 0;
+    // Kept: where the next event starts is found on the way, so no range says it.
     while at < body.len() {
-        let EventRead::Read(timed) = file_events::read_event(body, running, at) else {
-            return Gathering::Broken;
-        };
+        let timed = file_events::read_event(body, running, at)?;
         g = put_event(timed, g, deltas, words);
         let event = timed.event;
         if event.ends {
-            return ended(event.next == body.len(), g);
+            return (event.next == body.len()).then_some(g);
         }
         running = event.running;
         at = event.next;
     }
-    Gathering::Broken
+    None
 }
 
 // A byte as a wider number.
@@ -121,7 +94,7 @@ fn byte(bytes: &[u8], at: usize) -> u32
     requires { at < length bytes.now }
     ensures { (result ≡ get_or bytes.now at 0) × (result < 256) }
 {
-    wide(bytes[at])
+    u32::from(bytes[at])
 }
 
 // A number of two bytes, and of four, the most significant first.
@@ -140,20 +113,20 @@ fn four_bytes(bytes: &[u8], at: usize) -> u32
 }
 
 // The chunk at a place.
-pub fn read_chunk(bytes: &[u8], at: usize) -> ChunkRead
+pub fn read_chunk(bytes: &[u8], at: usize) -> Option<Chunk>
     requires { at ≤ length bytes.now }
     ensures { Agrees (ChunkIs bytes.now at) (chunk (drop at bytes.now)) (chunk_read result) }
 {
     if bytes.len() - at < 8 {
-        return ChunkRead::Broken;
+        return None;
     }
     let kind = four_bytes(bytes, at);
-    let length = size(four_bytes(bytes, at + 4));
+    let length = four_bytes(bytes, at + 4) as usize;
     let from = at + 8;
     if bytes.len() - from < length {
-        return ChunkRead::Broken;
+        return None;
     }
-    ChunkRead::Read(Chunk {
+    Some(Chunk {
         kind,
         from,
         to: from + length,
@@ -167,7 +140,7 @@ fn gather_track(
     sizes: &mut [u32],
     deltas: &mut [u32],
     words: &mut [u32],
-) -> Gathering
+) -> Option<Gathered>
     requires { (gathered.events + length body.now ≤ most_bytes) × (gathered.tracks < most_bytes) }
     ensures grown { Grown gathered (length body.now) 1 result }
     ensures held { (ss ds ws : List ℕ) (ts : List (List Timed))
@@ -175,14 +148,12 @@ fn gather_track(
         → Agrees (λ t g. TracksHeld (ts ++ (t ∷ [])) g ss ds ws sizes.new deltas.new words.new)
         (track_of body.now) (gathered_read result) }
 {
-    let Gathering::Read(g) = read_track(body, gathered, deltas, words) else {
-        return Gathering::Broken;
-    };
+    let g = read_track(body, gathered, deltas, words)?;
     store(sizes, gathered.tracks, (g.events - gathered.events) as u32);
-    Gathering::Read(Gathered {
+    Some(Gathered {
         tracks: gathered.tracks + 1,
         events: g.events,
-        bad: g.bad,
+        good: g.good,
     })
 }
 
@@ -194,7 +165,7 @@ fn gather_chunk(
     sizes: &mut [u32],
     deltas: &mut [u32],
     words: &mut [u32],
-) -> Gathering
+) -> Option<Gathered>
     requires from_le_to { (chunk.from ≤ chunk.to) × (chunk.to ≤ length bytes.now) × (length bytes.now ≤ most_bytes) }
     requires events_le_from { (gathered.events ≤ chunk.from) × (gathered.tracks < chunk.from) }
     ensures grown { Grown gathered (chunk.to - chunk.from) 1 result }
@@ -206,12 +177,12 @@ fn gather_chunk(
     let from = chunk.from;
     let to = chunk.to;
     if chunk.kind == MTHD {
-        return Gathering::Broken;
+        return None;
     }
     if chunk.kind == MTRK {
         return gather_track(&bytes[from..to], gathered, sizes, deltas, words);
     }
-    Gathering::Read(gathered)
+    Some(gathered)
 }
 
 // The tracks of the chunks from a place on.
@@ -221,7 +192,7 @@ pub fn gather_tracks(
     sizes: &mut [u32],
     deltas: &mut [u32],
     words: &mut [u32],
-) -> Gathering
+) -> Option<Gathered>
     requires { (8 ≤ start) × (start ≤ length bytes.now) × (length bytes.now ≤ most_bytes) }
     ensures { Agrees
         (λ ts g. TracksHeld ts g sizes.old deltas.old words.old
@@ -231,18 +202,15 @@ pub fn gather_tracks(
     let mut g = Gathered {
         tracks: 0,
         events: 0,
-        bad: 0,
+        good: true,
     };
     let mut at = start;
+    // Kept: a chunk says where the next one starts, so no range does.
     while at < bytes.len() {
-        let ChunkRead::Read(chunk) = read_chunk(bytes, at) else {
-            return Gathering::Broken;
-        };
-        let Gathering::Read(next) = gather_chunk(bytes, chunk, g, sizes, deltas, words) else {
-            return Gathering::Broken;
-        };
+        let chunk = read_chunk(bytes, at)?;
+        let next = gather_chunk(bytes, chunk, g, sizes, deltas, words)?;
         g = next;
         at = chunk.to;
     }
-    Gathering::Read(g)
+    Some(g)
 }

@@ -4,4 +4,4 @@ use Rattle.file_tracks.proofs.byte.Goals as goal
 
 pub returns : goal.returns
 returns c =
-    (c.wide.ensures, omega (arith, c.wide.ensures, c.type_inv.bytes c.args.at))
+    (c.from.ensures, omega (arith, c.from.ensures, c.type_inv.bytes c.args.at))

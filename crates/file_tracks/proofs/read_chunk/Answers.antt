@@ -12,11 +12,11 @@ pub returns-then-bytes-from : goal.returns-then-bytes-from
 returns-then-bytes-from c =
     let a = c.args in
     both_none _
-    (chunk_cut a.bytes.now a.at (omega arith) c.size-length.result
-    (c.size-length.ensures ∙ c.four_bytes.ensures) c.if-bytes-from.true)
+    (chunk_cut a.bytes.now a.at (omega arith) _
+    c.four_bytes-length.ensures c.if-bytes-from.true)
 
 pub returns : goal.returns
 returns c =
     let a = c.args in
-    chunk_found a.bytes.now a.at (omega arith) _ c.size-length.result c.four_bytes-kind.ensures
-    (c.size-length.ensures ∙ c.four_bytes.ensures) c.if-bytes-from.false
+    chunk_found a.bytes.now a.at (omega arith) _ _ c.four_bytes-kind.ensures
+    c.four_bytes-length.ensures c.if-bytes-from.false
