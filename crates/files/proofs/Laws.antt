@@ -11,6 +11,12 @@ use borrow.Author.Tests.{lt-ltb, le-ltb, le-leb, lt-leb, eq-eqb, ne_eqb, eqb-tru
 use lib.Dec.{leb, eqb}
 use lib.ListN.{length, get_or, take, drop, set, length-set, length-drop, length-map}
 use lib.Seq.{take-add, take-take, drop_at, drop-drop, length-take-le, take-length}
+use Rattle.std.specs.Prelude as std
+use Rattle.std.specs.Prelude.{Ok, Err}
+use Rattle.basics.specs.declared.Refusal.{Refusal}
+use Rattle.basics.specs.declared.Refusal.TheVariants.{SizesDisagree, DivisionZero, TooManyEvents, LargeDelta, BadWord, NoNotes, NoSuchPart}
+use Rattle.basics.specs.declared.Refusal.TheVariants.{NoRoom, UnevenPart, OutOfRange, TooManyBytes, BrokenFile, UnknownFormat}
+use Rattle.basics.specs.Refusals.{number}
 use Rattle.rules.specs.Lists.{every, written}
 use Rattle.rules.specs.Standard.{big_endian}
 use Rattle.rules.specs.Piece.{well_formed}
@@ -33,7 +39,7 @@ use Rattle.file_tracks.specs.Gathering.{ChunkIs}
 use Rattle.file_tracks.specs.Gathering.{fitted}
 use Rattle.files.specs.declared.Header as head
 use Rattle.files.specs.declared.Examined.{Examined}
-use Rattle.files.specs.Examined.{HeaderIs, count_fits_header, number_behind, Whole}
+use Rattle.files.specs.Examined.{HeaderIs, count_fits_header, number_behind, Whole, Examines}
 
 -- ---- bytes
 
@@ -92,6 +98,21 @@ module _ (bs : List ℕ) where
           })
 
 -- ---- the number
+
+refusal_numbered : (r : Refusal) → 0 < number r
+refusal_numbered SizesDisagree = omega arith
+refusal_numbered DivisionZero = omega arith
+refusal_numbered TooManyEvents = omega arith
+refusal_numbered LargeDelta = omega arith
+refusal_numbered BadWord = omega arith
+refusal_numbered NoNotes = omega arith
+refusal_numbered NoSuchPart = omega arith
+refusal_numbered NoRoom = omega arith
+refusal_numbered UnevenPart = omega arith
+refusal_numbered OutOfRange = omega arith
+refusal_numbered TooManyBytes = omega arith
+refusal_numbered BrokenFile = omega arith
+refusal_numbered UnknownFormat = omega arith
 
 -- each number is above 0
 file_numbered : (bs : List ℕ) → Numbered (file_refusals bs)
@@ -271,12 +292,21 @@ pub read_refused : (bs ss ds ws : List ℕ) (n : ℕ) → read_call bs (length s
     → ReadCalled as_it_is (read_call bs (length ss) (length ds) (length ws)) ss ds ws (refused n) ss ds ws
 read_refused bs ss ds ws n e = rw e (record { answered = refl; sizes = refl; deltas = refl; words = refl })
 
-pub read_numbered : (bs ss ds ws : List ℕ) (n : ℕ) → 0 < n → first_number (file_refusals bs) ≡ n
-    → ReadCalled as_it_is (read_call bs (length ss) (length ds) (length ws)) ss ds ws (refused n) ss ds ws
-read_numbered bs ss ds ws n l e = read_refused bs ss ds ws n (number_refused (file_refusals bs) _ (file_piece bs) n e l)
+module _ (bs : List ℕ) {r : std.Result Examined Refusal} {n : Refusal} (is : r ≡ Err n) (h : Examines bs r) where
+  pub examined_number : first_number (file_refusals bs) ≡ number n
+  examined_number = rw is at h
 
-pub size_numbered : (bs : List ℕ) (n : ℕ) → 0 < n → first_number (file_refusals bs) ≡ n → refused n ≡ read_size_call bs
-size_numbered bs n l e = sym (rw append-nil at (number_refused (file_refusals bs) [] (piece_size (file_piece bs)) n e l))
+  pub read_numbered : (ss ds ws : List ℕ)
+      → ReadCalled as_it_is (read_call bs (length ss) (length ds) (length ws)) ss ds ws (refused (number n)) ss ds ws
+  read_numbered ss ds ws =
+      read_refused bs ss ds ws (number n) (number_refused (file_refusals bs) _ (file_piece bs) (number n) examined_number (refusal_numbered n))
+
+  pub size_numbered : refused (number n) ≡ read_size_call bs
+  size_numbered =
+      sym (rw append-nil at (number_refused (file_refusals bs) [] (piece_size (file_piece bs)) (number n) examined_number (refusal_numbered n)))
+
+pub examined_whole : (bs : List ℕ) {r : std.Result Examined Refusal} {e : Examined} → r ≡ Ok e → Examines bs r → Whole bs e
+examined_whole bs is h = rw is at h
 
 pub size_given : (bs : List ℕ) (e : Examined) → Whole bs e → given (record { sizes = 2 + e.tracks; events = e.events }) ≡ read_size_call bs
 size_given bs e w =

@@ -1,14 +1,16 @@
 -- A file that was examined: its header, and what is known where no number is to be given.
-use Rattle.std.specs.Prelude.{ℕ, ◌≤◌, ◌<◌, Bool, cond, not, ◌&&◌, ◌||◌, ◌≡◌, eqb, ltb, length, drop}
+use Rattle.std.specs.Prelude.{ℕ, ◌≤◌, ◌<◌, Bool, cond, not, ◌&&◌, ◌||◌, ◌≡◌, eqb, ltb, length, drop, Ok, Err}
+use Rattle.std.specs.Prelude as std
 use mathlib.Core.List.{List, flatten}
 use Rattle.std.proofs.Math.Option.{Option, none, some}
 use Rattle.rules.specs.Refusals.{first_number, most_events}
 use Rattle.rules.specs.File.{Front, Header, header, header_of, tracks_of, file_tracks, file_refusals, most_bytes}
 use Rattle.laws.specs.Admitted.{Passes}
+use Rattle.basics.specs.declared.Refusal.{Refusal}
+use Rattle.basics.specs.Refusals.{number}
+use Rattle.file_events.specs.Events.{found}
 use Rattle.files.specs.declared.Header as place
-use Rattle.files.specs.declared.HeaderRead as headers
 use Rattle.files.specs.declared.Examined.{Examined}
-use Rattle.files.specs.declared.Examination as examination
 
 -- the header of a file
 pub record HeaderIs (bs : List ℕ) (h : Front Header) (k : place.Header) : Type 0 where
@@ -20,9 +22,8 @@ pub record HeaderIs (bs : List ℕ) (h : Front Header) (k : place.Header) : Type
   pub within : k.next ≤ length bs
   pub few : k.count < 65536
 
-abbrev pub header_read : headers.HeaderRead → Option place.Header
-header_read headers.TheVariants.Broken = none
-header_read (headers.TheVariants.Read k) = some k
+abbrev pub header_read : std.Option place.Header → Option place.Header
+header_read = found
 
 -- count_fits, by what the program knows
 abbrev pub count_fits_header : place.Header → ℕ → Bool
@@ -53,6 +54,6 @@ pub record Whole (bs : List ℕ) (e : Examined) : Type 0 where
   pub events : e.events ≡ length (flatten (file_tracks bs))
   pub few : e.tracks < 65536
 
-abbrev pub Examines : List ℕ → examination.Examination → Type 0
-Examines bs (examination.TheVariants.Refused n) = (0 < n) × (first_number (file_refusals bs) ≡ n)
-Examines bs (examination.TheVariants.Whole e) = Whole bs e
+abbrev pub Examines : List ℕ → std.Result Examined Refusal → Type 0
+Examines bs (Err r) = first_number (file_refusals bs) ≡ number r
+Examines bs (Ok e) = Whole bs e

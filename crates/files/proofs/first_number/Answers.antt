@@ -13,10 +13,10 @@ returns-then-division-eq0 c =
 pub returns-then-events-gt-MOST_EVENTS : goal.returns-then-events-gt-MOST_EVENTS
 returns-then-events-gt-MOST_EVENTS c = rw (c.if-not-fits.false, ne_eqb _ _ c.if-division-eq0.false, lt-ltb _ _ c.if-events-gt-MOST_EVENTS.true)
 
-pub returns-then-bad-ne0 : goal.returns-then-bad-ne0
-returns-then-bad-ne0 c =
-    rw (c.if-not-fits.false, ne_eqb _ _ c.if-division-eq0.false, le-ltb _ _ c.if-events-gt-MOST_EVENTS.false, ne_eqb _ _ c.if-bad-ne0.true)
+pub returns-then-not-good : goal.returns-then-not-good
+returns-then-not-good c =
+    rw (c.if-not-fits.false, ne_eqb _ _ c.if-division-eq0.false, le-ltb _ _ c.if-events-gt-MOST_EVENTS.false, c.if-not-good.true)
 
 pub returns : goal.returns
 returns c =
-    rw (c.if-not-fits.false, ne_eqb _ _ c.if-division-eq0.false, le-ltb _ _ c.if-events-gt-MOST_EVENTS.false, eq-eqb _ _ c.if-bad-ne0.false)
+    rw (c.if-not-fits.false, ne_eqb _ _ c.if-division-eq0.false, le-ltb _ _ c.if-events-gt-MOST_EVENTS.false, c.if-not-good.false)

@@ -1,20 +1,16 @@
 -- `files::read_size` answers what was examined.
 use native.Mathlib.Omega.{arith}
-use Rattle.files.specs.Examined.{Whole}
-use Rattle.files.proofs.Laws.{size_numbered, size_given}
+use Rattle.std.proofs.lemmas.Result.{err_from_is_err_and}
+use Rattle.files.proofs.Laws.{examined_whole, size_numbered, size_given}
 use Rattle.files.proofs.read_size.Goals as goal
 
 pub overflow_add-result : goal.overflow_add-result
 overflow_add-result c =
-    let whole : (Whole c.args.bytes.now c.in-Whole.e) = rw c.in-Whole.is at c.examine.ensures in
-    let w = whole in omega (arith, w.few)
+    let w = examined_whole _ c.in_ok-e.was c.examine.ensures in
+    omega (arith, w.few)
 
-pub returns-in-Refused : goal.returns-in-Refused
-returns-in-Refused c =
-    let n = rw c.in-Refused.is at c.examine.ensures in
-    size_numbered _ _ n.0 n.1
+pub returns-in_err-e : goal.returns-in_err-e
+returns-in_err-e c = rw c.from_residual.ensures (size_numbered _ c.in_err-e.was c.examine.ensures)
 
-pub returns-in-Whole : goal.returns-in-Whole
-returns-in-Whole c =
-    let whole : (Whole c.args.bytes.now c.in-Whole.e) = rw c.in-Whole.is at c.examine.ensures in
-    size_given _ _ (whole)
+pub returns : goal.returns
+returns c = size_given _ _ (examined_whole _ c.in_ok-e.was c.examine.ensures)
