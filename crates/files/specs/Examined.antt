@@ -2,7 +2,7 @@
 use Rattle.std.specs.Prelude.{ℕ, ◌≤◌, ◌<◌, Bool, cond, not, ◌&&◌, ◌||◌, ◌≡◌, eqb, ltb, length, drop, Ok, Err}
 use Rattle.std.specs.Prelude as std
 use mathlib.Core.List.{List, flatten}
-use Rattle.std.proofs.Math.Option.{Option, none, some}
+use Rattle.std.proofs.Math.Option.{Option, some}
 use Rattle.rules.specs.Refusals.{first_number, most_events}
 use Rattle.rules.specs.File.{Front, Header, header, header_of, tracks_of, file_tracks, file_refusals, most_bytes}
 use Rattle.laws.specs.Admitted.{Passes}

@@ -93,15 +93,14 @@ fn examine_tracks(bytes: &[u8], h: Header) -> Result<Examined, Refusal>
     let mut sizes = [0u32; 1];
     let mut deltas = [0u32; 1];
     let mut words = [0u32; 1];
-    let Some(g) = gather_tracks(
+    let g = gather_tracks(
         bytes,
         h.next,
         &mut sizes[..0],
         &mut deltas[..0],
         &mut words[..0],
-    ) else {
-        return Err(Refusal::BrokenFile);
-    };
+    )
+    .ok_or(Refusal::BrokenFile)?;
     let fits = count_fits(h, g.tracks);
     first_number(fits, h.division, g.events, g.good)?;
     Ok(Examined {
@@ -119,9 +118,7 @@ fn examine(bytes: &[u8]) -> Result<Examined, Refusal>
     if MOST_BYTES < bytes.len() {
         return Err(Refusal::TooManyBytes);
     }
-    let Some(h) = read_header(bytes) else {
-        return Err(Refusal::BrokenFile);
-    };
+    let h = read_header(bytes).ok_or(Refusal::BrokenFile)?;
     if 1 < h.format {
         return Err(Refusal::UnknownFormat);
     }
@@ -183,7 +180,12 @@ fn read_whole(
 }
 
 // A file's piece: how many sizes and events, and the three arrays. Refusals 11, 12, 13, 2, 3, 5, 8.
-pub fn read(bytes: &[u8], sizes: &mut [u32], deltas: &mut [u32], words: &mut [u32]) -> Result<PieceSize, Refusal>
+pub fn read(
+    bytes: &[u8],
+    sizes: &mut [u32],
+    deltas: &mut [u32],
+    words: &mut [u32],
+) -> Result<PieceSize, Refusal>
     ensures { ReadCalled as_it_is
         (read_call bytes.now (length sizes.old) (length deltas.old) (length words.old))
         sizes.old deltas.old words.old (piece_answer result)

@@ -1,5 +1,4 @@
 -- `file_tracks::read_chunk` finds a chunk's type, its bytes and what stands behind them.
-use mathlib.Core.Path.{◌∙◌}
 use native.Mathlib.Omega.{arith}
 use Rattle.laws.proofs.Parsed.{both_none}
 use Rattle.file_tracks.proofs.Laws.{chunk_short, chunk_cut, chunk_found}

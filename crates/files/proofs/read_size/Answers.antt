@@ -10,7 +10,9 @@ overflow_add-result c =
     omega (arith, w.few)
 
 pub returns-in_err-e : goal.returns-in_err-e
-returns-in_err-e c = rw c.from_residual.ensures (size_numbered _ c.in_err-e.was c.examine.ensures)
+returns-in_err-e c =
+    let p = err_from_is_err_and c.from_residual.result c.from_residual.ensures.1 in
+    rw (p.1, p.2) (size_numbered _ c.in_err-e.was c.examine.ensures)
 
 pub returns : goal.returns
 returns c = size_given _ _ (examined_whole _ c.in_ok-e.was c.examine.ensures)
