@@ -7,24 +7,24 @@ use lib.ListN.{length}
 use Rattle.rules.specs.Lists.{written}
 use Rattle.rules.specs.Piece.{Piece, Event, ticks_per_quarter}
 use Rattle.rules.specs.Automation.{AutomationLists, automation_lists}
-use Rattle.rules.specs.Refusals.{Result, refused, given, unless, part_refusals, as_it_is}
+use Rattle.rules.specs.Refusals.{Result, refused, given, unless, first_number, part_refusals, as_it_is}
 use Rattle.rules.specs.Calls.{AutomationCounts, AutomationCalled, automation_call}
 use Rattle.laws.proofs.Refusals.{passes_append}
 use Rattle.track_events.specs.Track.{events_of, stretch}
-use Rattle.opening.specs.declared.OpenedPart.{OpenedPart}
+use Rattle.std.specs.Prelude.{Ok}
+use Rattle.basics.specs.declared.Refusal.{Refusal}
+use Rattle.basics.specs.Refusals.{number}
+use Rattle.tracks.specs.declared.Span.{Span}
 use Rattle.opening.specs.Opening.{PartOpened}
 use Rattle.opening.proofs.Opening.{refuses, part_passes}
 use Rattle.automation_events.specs.Kinds.{AreCounts}
 use Rattle.automation_events.specs.declared.Counts.{Counts}
 use Rattle.automation_events.proofs.CountLaws.{ticks_total, words_total}
-use Rattle.automation.specs.Answers.{automation_outcome}
+use Rattle.automation.specs.Answers.{as_counts, automation_outcome}
 
 -- how many entries there are
 abbrev pub total : Counts → ℕ
 total c = c.bends + c.controllers + c.programs + c.pressures
-
-abbrev pub as_counts : Counts → AutomationCounts
-as_counts c = record { bends = c.bends; controllers = c.controllers; programs = c.programs; pressures = c.pressures }
 
 -- a call that is refused leaves both outputs
 automation_refused : {r : Result AutomationLists} {ticks words : List ℕ} (n : ℕ) → r ≡ refused n
@@ -70,20 +70,20 @@ module _ (p : ℕ) (es : List Event) (ticks words : List ℕ) (c : Counts) (are 
         words = w;
       })
 
-module _ (x : Piece) (k : ℕ) {o : OpenedPart} {ticks words : List ℕ} (opened : PartOpened x k o) where
+module _ (x : Piece) (k : ℕ) {ticks words : List ℕ} where
   -- 1 to 7
-  pub part_refused : (o.number ≡ 0 → ⊥)
-      → AutomationCalled as_it_is (automation_call x k (length ticks) (length words)) ticks words (refused o.number) ticks words
-  part_refused h = automation_refused o.number (refuses (part_refusals x k) opened.number h _ _)
+  pub part_refused : (r : Refusal) → number r ≡ first_number (part_refusals x k)
+      → AutomationCalled as_it_is (automation_call x k (length ticks) (length words)) ticks words (refused (number r)) ticks words
+  part_refused r e = automation_refused (number r) (refuses (part_refusals x k) r e _ _)
 
   -- what writing the part's track comes to is the call's outcome
-  pub part_answered : {p : ℕ} {ticks₁ words₁ : List ℕ} {r : Result AutomationCounts} → o.number ≡ 0 → p ≡ ticks_per_quarter x
+  pub part_answered : {p : ℕ} {s : Span} {ticks₁ words₁ : List ℕ} {r : Result AutomationCounts} → PartOpened x k (Ok s) → p ≡ ticks_per_quarter x
       → AutomationCalled as_it_is
-      (automation_outcome p (events_of (stretch o.from o.to x.deltas) (stretch o.from o.to x.words)) (length ticks) (length words))
+      (automation_outcome p (events_of (stretch s.from s.to x.deltas) (stretch s.from s.to x.words)) (length ticks) (length words))
       ticks words r ticks₁ words₁
       → AutomationCalled as_it_is (automation_call x k (length ticks) (length words)) ticks words r ticks₁ words₁
-  part_answered {ticks₁ = ticks₁} {words₁ = words₁} {r = r} z e called =
+  part_answered {ticks₁ = ticks₁} {words₁ = words₁} {r = r} opened e called =
       subst (λ o. AutomationCalled as_it_is o ticks words r ticks₁ words₁)
-      ((λ i. automation_outcome (e i) ((opened.own z).events i) (length ticks) (length words))
-      ∙ sym (passes_append (part_refusals x k) _ _ (part_passes x k opened z)))
+      ((λ i. automation_outcome (e i) (opened.own.events i) (length ticks) (length words))
+      ∙ sym (passes_append (part_refusals x k) _ _ (part_passes x k opened)))
       called

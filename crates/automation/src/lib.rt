@@ -9,13 +9,8 @@ ghost use Rattle.track_events.specs.Track.{Track, events_of};
 ghost use Rattle.automation.specs.Answers.{automation_answer, automation_outcome};
 
 use automation_events::Counts;
+use basics::Refusal;
 use track_events::cut;
-
-#[derive(Clone, Copy)]
-pub enum AutomationAnswer {
-    Refused(u32),
-    Given(Counts),
-}
 
 // The automation of a part's track, counted before it is written.
 fn write_automation(
@@ -24,7 +19,7 @@ fn write_automation(
     words: &[u32],
     ticks: &mut [u64],
     out: &mut [u32],
-) -> AutomationAnswer
+) -> Result<Counts, Refusal>
     requires { Track deltas.now words.now × (0 < p) × (p ≤ largest_size) }
     ensures { AutomationCalled as_it_is
         (automation_outcome p (events_of deltas.now words.now) (length ticks.old) (length out.old))
@@ -34,13 +29,13 @@ fn write_automation(
     let counts = automation_events::count_automation(deltas, words, dropped);
     let all = counts.bends + counts.controllers + counts.programs + counts.pressures;
     if ticks.len() < all {
-        return AutomationAnswer::Refused(8);
+        return Err(Refusal::NoRoom);
     }
     if out.len() < all {
-        return AutomationAnswer::Refused(8);
+        return Err(Refusal::NoRoom);
     }
     automation_events::collect_automation(deltas, words, p, dropped, counts, ticks, out);
-    AutomationAnswer::Given(counts)
+    Ok(counts)
 }
 
 // A part's automation: four counts, then ticks at 480 per quarter and words. Refusals 1 to 8.
@@ -51,17 +46,14 @@ pub fn automation(
     part: u32,
     ticks: &mut [u64],
     out: &mut [u32],
-) -> AutomationAnswer
+) -> Result<Counts, Refusal>
     ensures { AutomationCalled as_it_is
         (automation_call (piece sizes.now deltas.now words.now) part (length ticks.old) (length out.old))
         ticks.old out.old (automation_answer result) ticks.new out.new }
 {
-    let opened = opening::open_part(sizes, deltas, words, part);
-    if opened.number != 0 {
-        return AutomationAnswer::Refused(opened.number);
-    }
+    let track = opening::open_part(sizes, deltas, words, part)?;
     let p = tracks::ticks_per_quarter(sizes);
-    let from = opened.from;
-    let to = opened.to;
-    write_automation(p, cut(deltas, from, to), cut(words, from, to), ticks, out)
+    let own_deltas = cut(deltas, track.from, track.to);
+    let own_words = cut(words, track.from, track.to);
+    write_automation(p, own_deltas, own_words, ticks, out)
 }

@@ -1,8 +1,9 @@
 -- What the answers mean: a number, or the values that document 01 asks for.
 use Rattle.std.specs.Prelude.{ℕ}
-use Rattle.rules.specs.Refusals.{Result, refused, given}
-use Rattle.bars.specs.declared.BarsAnswer as declared_answer
+use Rattle.std.specs.Prelude as std
+use Rattle.rules.specs.Refusals.{Result, as_it_is}
+use Rattle.basics.specs.declared.Refusal.{Refusal}
+use Rattle.basics.specs.Refusals.{told_by}
 
-abbrev pub bars_answer : declared_answer.BarsAnswer → Result ℕ
-bars_answer (declared_answer.TheVariants.Refused n) = refused n
-bars_answer (declared_answer.TheVariants.Given n) = given n
+abbrev pub bars_answer : std.Result ℕ Refusal → Result ℕ
+bars_answer r = told_by as_it_is r

@@ -7,13 +7,7 @@ ghost use Rattle.rules.specs.Calls.{bars_call, BarsCalled};
 ghost use Rattle.std.specs.Prelude.{length};
 ghost use Rattle.bars.specs.Answers.{bars_answer};
 
-use basics::MOST_BARS;
-
-#[derive(Clone, Copy)]
-pub enum BarsAnswer {
-    Refused(u32),
-    Given(u32),
-}
+use basics::{MOST_BARS, Refusal};
 
 // The bars of a piece: how many, their starts and their marks. Refusals 1 to 6, 8.
 pub fn bars(
@@ -22,15 +16,12 @@ pub fn bars(
     words: &[u32],
     starts: &mut [u64],
     marks: &mut [u64],
-) -> BarsAnswer
+) -> Result<u32, Refusal>
     ensures { BarsCalled as_it_is
         (bars_call (piece sizes.now deltas.now words.now) (length starts.old) (length marks.old))
         starts.old marks.old (bars_answer result) starts.new marks.new }
 {
-    let opened = opening::open_notes(sizes, deltas, words);
-    if opened.number != 0 {
-        return BarsAnswer::Refused(opened.number);
-    }
+    opening::open_notes(sizes, deltas, words)?;
     let source = bar_source::bar_source(sizes, deltas, words);
     let p = source.p;
     let end = source.end;
@@ -38,11 +29,11 @@ pub fn bars(
     let first_words = track_events::cut(words, source.from, source.to);
     let count = bar_walk::count_bars(p, first_deltas, first_words, end, MOST_BARS);
     if starts.len() < count {
-        return BarsAnswer::Refused(8);
+        return Err(Refusal::NoRoom);
     }
     if marks.len() < count {
-        return BarsAnswer::Refused(8);
+        return Err(Refusal::NoRoom);
     }
     bar_walk::midi_bars(p, first_deltas, first_words, end, MOST_BARS, starts, marks);
-    BarsAnswer::Given(count as u32)
+    Ok(count as u32)
 }

@@ -11,6 +11,8 @@ use Rattle.rules.specs.RawNotes.{most_notes}
 use Rattle.rules.specs.Diagnostics.{Diagnostic, place_of, detail_of, diagnostics}
 use Rattle.rules.specs.Refusals.{Result, refused, given, unless, first_number, piece_refusals, work_for, short_output, as_it_is}
 use Rattle.rules.specs.Calls.{diagnostics_call, DiagnosticsCalled}
+use Rattle.basics.specs.declared.Refusal.{Refusal}
+use Rattle.basics.specs.Refusals.{number}
 use Rattle.laws.proofs.Places.{no_elements}
 use Rattle.opening.proofs.Opening.{refuses, piece_passes, work_short, work_enough}
 use Rattle.diagnostics.specs.Answers.{DiagnosticsWritten}
@@ -20,18 +22,18 @@ leaves : {r : Result (List Diagnostic)} {places details : List ℕ} (n : ℕ) �
     → DiagnosticsWritten r places details (refused n) places details
 leaves n e = record { answered = rw e; places = rw e; details = rw e }
 
-module _ (x : Piece) (places details : List ℕ) (work : ℕ) {n : ℕ} (number : n ≡ first_number (piece_refusals x)) where
+module _ (x : Piece) (places details : List ℕ) (work : ℕ) where
   -- the call answers a, and leaves p and d in the outputs
   abbrev Answers : Result ℕ → List ℕ → List ℕ → Type 0
   Answers a p d = DiagnosticsWritten (diagnostics_call x (length places) (length details) work) places details a p d
 
   -- 1 to 5
-  pub piece_refused : (n ≡ 0 → ⊥) → Answers (refused n) places details
-  piece_refused h = leaves n (refuses (piece_refusals x) number h _ _)
+  pub piece_refused : (r : Refusal) → number r ≡ first_number (piece_refusals x) → Answers (refused (number r)) places details
+  piece_refused r e = leaves (number r) (refuses (piece_refusals x) r e _ _)
 
-  module _ (z : n ≡ 0) {m : ℕ} (most : m ≡ most_notes x) where
+  module _ (e : 0 ≡ first_number (piece_refusals x)) {m : ℕ} (most : m ≡ most_notes x) where
     pub work_refused : work < work_for m → Answers (refused 8) places details
-    work_refused h = leaves 8 (work_short x (piece_refusals x) (piece_passes x number z) m work most _ _ h)
+    work_refused h = leaves 8 (work_short x (piece_refusals x) (piece_passes x e) m work most _ _ h)
 
     module _ (enough : work_for m ≤ work) {count : ℕ} (all : count ≡ length (diagnostics x)) where
       -- none of 1 to 5 applies, and the work area has room
@@ -39,7 +41,7 @@ module _ (x : Piece) (places details : List ℕ) (work : ℕ) {n : ℕ} (number 
           ≡ unless
           (short_output (length places) (map place_of (diagnostics x)) ∷ short_output (length details) (map detail_of (diagnostics x)) ∷ [])
           (diagnostics x)
-      outputs_left = work_enough x (piece_refusals x) (piece_passes x number z) m work most _ _ enough
+      outputs_left = work_enough x (piece_refusals x) (piece_passes x e) m work most _ _ enough
 
       pub places_refused : length places < count → Answers (refused 8) places details
       unfolding unless
@@ -65,10 +67,10 @@ module _ (x : Piece) (places details : List ℕ) (work : ℕ) {n : ℕ} (number 
 
       -- there are none, and nothing is written
       pub none_written : count ≡ 0 → Answers (given 0) places details
-      none_written e =
-          let none_found : diagnostics x ≡ [] = no_elements (diagnostics x) (sym all ∙ e) in
+      none_written none =
+          let none_found : diagnostics x ≡ [] = no_elements (diagnostics x) (sym all ∙ none) in
           let called = all_written {places₁ = places} {details₁ = details} (omega arith) (omega arith) (rw none_found) (rw none_found) in
-          rw e at called
+          rw none at called
 
 -- the work area is zeroed last
 pub work_zeroed : {r : Result (List Diagnostic)} {places details work places₁ details₁ work₁ : List ℕ} {a : Result ℕ}

@@ -7,11 +7,7 @@ ghost use Rattle.rules.specs.Calls.{diagnostics_call, DiagnosticsCalled};
 ghost use Rattle.std.specs.Prelude.{◌<◌, length};
 ghost use Rattle.diagnostics.specs.Answers.{diagnostics_answer, DiagnosticsWritten};
 
-#[derive(Clone, Copy)]
-pub enum DiagnosticsAnswer {
-    Refused(u32),
-    Given(u32),
-}
+use basics::Refusal;
 
 // The diagnostics, counted before they are written. What it leaves in the work area is not said.
 fn write_diagnostics(
@@ -21,32 +17,29 @@ fn write_diagnostics(
     places: &mut [u64],
     details: &mut [u64],
     work: &mut [u64],
-) -> DiagnosticsAnswer
+) -> Result<u32, Refusal>
     ensures { DiagnosticsWritten
         (diagnostics_call (piece sizes.now deltas.now words.now)
         (length places.old) (length details.old) (length work.old))
         places.old details.old (diagnostics_answer result) places.new details.new }
 {
-    let number = admission::admission(sizes, deltas, words);
-    if number != 0 {
-        return DiagnosticsAnswer::Refused(number);
-    }
+    admission::admission(sizes, deltas, words)?;
     let n = tracks::most_notes(sizes, deltas, words);
     if work.len() < basics::work_for(n) {
-        return DiagnosticsAnswer::Refused(8);
+        return Err(Refusal::NoRoom);
     }
     let count = loss_diagnostics::count_diagnostics(sizes, deltas, words, work, n);
     if count == 0 {
-        return DiagnosticsAnswer::Given(0);
+        return Ok(0);
     }
     if places.len() < count {
-        return DiagnosticsAnswer::Refused(8);
+        return Err(Refusal::NoRoom);
     }
     if details.len() < count {
-        return DiagnosticsAnswer::Refused(8);
+        return Err(Refusal::NoRoom);
     }
     loss_diagnostics::loss_diagnostics(sizes, deltas, words, places, details, work, n);
-    DiagnosticsAnswer::Given(count as u32)
+    Ok(count as u32)
 }
 
 // The diagnostics of a piece: how many, their places and their details. Refusals 1 to 5, 8.
@@ -57,7 +50,7 @@ pub fn diagnostics(
     places: &mut [u64],
     details: &mut [u64],
     work: &mut [u64],
-) -> DiagnosticsAnswer
+) -> Result<u32, Refusal>
     ensures { DiagnosticsCalled as_it_is
         (diagnostics_call (piece sizes.now deltas.now words.now)
         (length places.old) (length details.old) (length work.old))

@@ -1,17 +1,19 @@
 -- What the answers mean: a number, or the values that document 01 asks for.
 use Rattle.std.specs.Prelude.{ℕ, false, cond, ◌≡◌, pos}
+use Rattle.std.specs.Prelude as std
+use Rattle.std.specs.Result.{IfOk}
 use Rattle.std.proofs.Math.Option.{none, some}
 use Rattle.rules.specs.Changes as rules
 use Rattle.rules.specs.Piece.{Piece}
-use Rattle.rules.specs.Refusals.{Result, refused, given}
+use Rattle.rules.specs.Refusals.{Result, as_it_is}
 use Rattle.rules.specs.Calls.{head_call}
-use Rattle.changes.specs.declared.Head as changes
-use Rattle.heads.specs.declared.HeadAnswer as head
-use Rattle.heads.specs.declared.PartCountAnswer as count
-use Rattle.heads.specs.declared.PartHeadAnswer as part_head_lem
+use Rattle.basics.specs.declared.Refusal.{Refusal}
+use Rattle.basics.specs.Refusals.{told_by}
+use Rattle.changes.specs.declared.Head.{Head}
+use Rattle.changes.specs.declared.PartHead.{PartHead}
 
 -- the head that a struct stands for
-abbrev pub head_of : changes.Head → rules.Head
+abbrev pub head_of : Head → rules.Head
 head_of h =
     record {
       tempo = h.tempo;
@@ -19,23 +21,22 @@ head_of h =
       key = cond h.has_key (some (record { fifths = h.fifths; minor = h.minor })) none;
     }
 
-abbrev pub head_answer : head.HeadAnswer → Result rules.Head
-head_answer (head.TheVariants.Refused n) = refused n
-head_answer (head.TheVariants.Given h) = given (head_of h)
+abbrev pub head_answer : std.Result Head Refusal → Result rules.Head
+head_answer r = told_by head_of r
 
 -- where the key is absent its fields are 0
-abbrev pub AbsentKey : head.HeadAnswer → Type 0
-AbsentKey (head.TheVariants.Refused n) = Unit {0}
-AbsentKey (head.TheVariants.Given h) = h.has_key ≡ false → (h.fifths ≡ pos 0) × (h.minor ≡ false)
+abbrev pub AbsentKey : std.Result Head Refusal → Type 0
+AbsentKey r = IfOk r (λ h. h.has_key ≡ false → (h.fifths ≡ pos 0) × (h.minor ≡ false))
 
-pub record HeadCalled (x : Piece) (r : head.HeadAnswer) : Type 0 where
+pub record HeadCalled (x : Piece) (r : std.Result Head Refusal) : Type 0 where
   pub answered : head_answer r ≡ head_call x
   pub absent : AbsentKey r
 
-abbrev pub count_answer : count.PartCountAnswer → Result ℕ
-count_answer (count.TheVariants.Refused n) = refused n
-count_answer (count.TheVariants.Given n) = given n
+abbrev pub count_answer : std.Result ℕ Refusal → Result ℕ
+count_answer r = told_by as_it_is r
 
-abbrev pub part_head_answer : part_head_lem.PartHeadAnswer → Result rules.PartHead
-part_head_answer (part_head_lem.TheVariants.Refused n) = refused n
-part_head_answer (part_head_lem.TheVariants.Given h) = given (record { channel = h.channel; program = h.program })
+abbrev pub part_head_of : PartHead → rules.PartHead
+part_head_of h = record { channel = h.channel; program = h.program }
+
+abbrev pub part_head_answer : std.Result PartHead Refusal → Result rules.PartHead
+part_head_answer r = told_by part_head_of r

@@ -4,6 +4,7 @@ use native.Mathlib.Omega.{arith}
 use Prim.Native.Nat.{ℕ}
 use mathlib.Core.List.{List}
 use lib.ListN.{length}
+use Rattle.std.proofs.lemmas.Result.{err_from_is_err_and}
 use Rattle.rules.specs.Bars.{bars, bars_in, most_bars}
 use Rattle.rules.specs.Piece.{Piece, piece}
 use Rattle.rules.specs.Refusals.{note_refusals}
@@ -29,32 +30,34 @@ counted : {x : Piece} {s : BarSource} → IsBarSource x s → {d w : List ℕ} {
     → n ≡ length (bars_in most_bars s.p (events_of d w) s.end) → n ≡ length (bars x)
 counted is e f h = rw (bars_are is most_bars) at (rw (e, f) at h)
 
-pub returns-then-opened-ne0 : goal.returns-then-opened-ne0
-returns-then-opened-ne0 c = bars_refused _ (refuses (note_refusals _) c.open_notes-opened.ensures.number c.if-opened-ne0.true _ _)
+pub returns-in_err-open_notes : goal.returns-in_err-open_notes
+returns-in_err-open_notes c =
+    let p = err_from_is_err_and c.from_residual.result c.from_residual.ensures.1 in
+    rw (p.1, p.2) (bars_refused _ (refuses (note_refusals _) _ c.in_err-open_notes.ensures.number _ _))
 
 pub bar_source-source-requires : goal.bar_source-source-requires
-bar_source-source-requires c = notes_admitted _ c.open_notes-opened.ensures c.if-opened-ne0.false
+bar_source-source-requires c = notes_admitted _ c.in_ok-open_notes.ensures
 
 pub count_bars-count-requires : goal.count_bars-count-requires
 count_bars-count-requires c =
-    walk _ (notes_admitted _ c.open_notes-opened.ensures c.if-opened-ne0.false) c.bar_source-source.ensures
+    walk _ (notes_admitted _ c.in_ok-open_notes.ensures) c.bar_source-source.ensures
     c.cut-first_deltas.ensures c.cut-first_words.ensures
 
 pub returns-then-starts-count : goal.returns-then-starts-count
 returns-then-starts-count c =
-    starts_short _ (notes_pass _ c.open_notes-opened.ensures c.if-opened-ne0.false) _
+    starts_short _ (notes_pass _ c.in_ok-open_notes.ensures) _
     (counted c.bar_source-source.ensures c.cut-first_deltas.ensures c.cut-first_words.ensures c.count_bars-count.ensures) _ _
     c.if-starts-count.true
 
 pub returns-then-marks-count : goal.returns-then-marks-count
 returns-then-marks-count c =
-    marks_short _ (notes_pass _ c.open_notes-opened.ensures c.if-opened-ne0.false) _
+    marks_short _ (notes_pass _ c.in_ok-open_notes.ensures) _
     (counted c.bar_source-source.ensures c.cut-first_deltas.ensures c.cut-first_words.ensures c.count_bars-count.ensures) _ _
     c.if-starts-count.false c.if-marks-count.true
 
 pub midi_bars-requires : goal.midi_bars-requires
 midi_bars-requires c = (
-  walk _ (notes_admitted _ c.open_notes-opened.ensures c.if-opened-ne0.false) c.bar_source-source.ensures
+  walk _ (notes_admitted _ c.in_ok-open_notes.ensures) c.bar_source-source.ensures
       c.cut-first_deltas.ensures c.cut-first_words.ensures,
   record {
     starts_fit = omega (arith, c.count_bars-count.ensures, c.if-starts-count.false);
@@ -74,7 +77,7 @@ overflow_cast-result c =
 pub returns : goal.returns
 returns c =
     let source = c.bar_source-source.ensures in
-    bars_given _ (notes_pass _ c.open_notes-opened.ensures c.if-opened-ne0.false) _
+    bars_given _ (notes_pass _ c.in_ok-open_notes.ensures) _
     (counted source c.cut-first_deltas.ensures c.cut-first_words.ensures c.count_bars-count.ensures) _ _
     c.if-starts-count.false c.if-marks-count.false
     (rw (bars_are source most_bars, source.first.events)
