@@ -6,17 +6,18 @@ ghost use Rattle.files.specs.Answers.{piece_answer};
 ghost use Rattle.replay_answers.specs.Numbers.{saying};
 ghost use Rattle.replay_file_calls.specs.Outcomes.{piece_numbers, outcome, left};
 
-use files::PieceAnswer;
+use basics::Refusal;
+use files::PieceSize;
 use replay_answers::{say_refused, say_two};
 
 // How many sizes and events, or the number.
-fn say_piece(answer: PieceAnswer, said: &mut [u64])
+fn say_piece(answer: Result<PieceSize, Refusal>, said: &mut [u64])
     requires { 8 ≤ length said.old }
     ensures { said.new ≡ saying piece_numbers said.old (piece_answer answer) }
 {
     match answer {
-        PieceAnswer::Refused(number) => say_refused(number, said),
-        PieceAnswer::Given(size) => say_two(size.sizes as u64, size.events as u64, said),
+        Err(refusal) => say_refused(u32::from(refusal), said),
+        Ok(size) => say_two(size.sizes as u64, size.events as u64, said),
     }
 }
 
