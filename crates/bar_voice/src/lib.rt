@@ -29,15 +29,13 @@ pub fn skip_past(work: &[u64], n: usize, v: usize, len: usize, next: usize, tick
     requires { VoiceHeld n work.now v len × Past tick (voice_of n work.now v len) next }
     ensures { Skipped tick (voice_of n work.now v len) result }
 {
-    let mut j = next;
-    while j < len {
+    for j in next..len {
         let c = voice_chord(work, n, v, j);
         if tick < c.end {
             return j;
         }
-        j += 1;
     }
-    j
+    len
 }
 
 // Whether chord `next` of voice v is there and starts before the tick.
@@ -71,7 +69,7 @@ fn push_gap_and_chord(
         (gap_and_chord_left (quarter values.now) bar.start bar.end tick (columns.chord_of c)) from
         heads.old keys.old heads.new keys.new result }
 {
-    let gap = basics::larger(bar.start, c.start) - tick;
+    let gap = bar.start.max(c.start) - tick;
     let rests = items::push_rests(write, values, gap, heads, keys, from);
     items::push_chord(write, values, bar, c, heads, keys, rests)
 }
@@ -100,15 +98,13 @@ fn push_filled(
 {
     let mut s = Split { at: from, left: 0 };
     let mut tick = bar.start;
-    let mut j = next;
-    while j < len {
+    for j in next..len {
         let c = voice_chord(work, n, v, j);
         if bar.end <= c.start {
             return items::push_rests(write, values, bar.end - tick, heads, keys, s);
         }
         s = push_gap_and_chord(write, values, bar, tick, c, heads, keys, s);
-        tick = items::smaller(bar.end, c.end);
-        j += 1;
+        tick = bar.end.min(c.end);
     }
     items::push_rests(write, values, bar.end - tick, heads, keys, s)
 }

@@ -5,6 +5,7 @@ use mathlib.Core.List.{List, [], ◌∷◌, map, flat_map, flatten}
 use mathlib.Core.Path.{◌≡◌, refl, ap}
 use native.Mathlib.Omega.{arith}
 use lib.ListN.{length}
+use mir.Val.{bool_byte}
 use Rattle.rules.specs.Lists.{flag}
 use Rattle.rules.specs.Items.{head_of}
 use Rattle.rules.specs.Staff.{rest_of, piece_of, pieces}
@@ -32,6 +33,11 @@ rest_keys (v ∷ vs) = ap (λ (l : List ℕ). 0 ∷ 0 ∷ l) (rest_keys vs)
 -- the bits of a chord's head, tied on both sides
 abbrev pub tied_bits : Bool → ℕ
 tied_bits u = 96 + flag u * 128
+
+-- a mark as the code casts it
+pub byte_flag : (b : Bool) → bool_byte b ≡ flag b
+byte_flag true = refl
+byte_flag false = refl
 
 module _ (c : Chord) where
   pub pieces_length : (is_in is_out : Bool) (vs : List Value) → length (pieces c is_in is_out vs) ≡ length vs

@@ -2,8 +2,7 @@
 // write: where it is not, the items are counted, and no output changes. Each adds the ticks that no item took to those it is given.
 #![tactic(auto)]
 
-ghost use Rattle.std.specs.Prelude.{◌+◌, ◌-◌, ◌*◌, ◌<◌, ◌≤◌, ◌^◌, min, false, ◌&&◌, ◌≡◌, ltb, length, get_or};
-ghost use Rattle.rules.specs.Lists.{flag};
+ghost use Rattle.std.specs.Prelude.{◌+◌, ◌-◌, ◌*◌, ◌<◌, ◌≤◌, ◌^◌, false, ◌&&◌, ◌≡◌, ltb, length, get_or};
 ghost use Rattle.rules.specs.Staff.{rests, chord_in, rests_left, chord_left};
 ghost use Rattle.chords.specs.Columns.{chord_of};
 ghost use Rattle.items.specs.Putting.{put_at};
@@ -19,18 +18,6 @@ pub struct Measure {
     pub end: u64,
 }
 
-pub fn smaller(a: u64, b: u64) -> u64
-    ensures { result ≡ min a b }
-{
-    if a < b { a } else { b }
-}
-
-fn flag(b: bool) -> u32
-    ensures { result ≡ flag b }
-{
-    if b { 1 } else { 0 }
-}
-
 // ---- spans
 
 // Writes the keys of the items from..to.
@@ -38,11 +25,9 @@ fn push_keys(keys: &mut [u64], from: usize, to: usize, low: u64, high: u64)
     requires { (from ≤ to) × (2 * to ≤ length keys.old) }
     ensures { keys.new ≡ put_at (pairs low high (to - from)) (2 * from) keys.old }
 {
-    let mut i = from;
-    while i < to {
+    for i in from..to {
         keys[2 * i] = low;
         keys[2 * i + 1] = high;
-        i += 1;
     }
 }
 
@@ -138,8 +123,8 @@ pub fn push_chord(
         (chord_left (quarter values.now) bar.start bar.end (chord_of c)) from
         heads.old keys.old heads.new keys.new result }
 {
-    let ticks = smaller(bar.end, c.end) - basics::larger(bar.start, c.start);
-    let bits = 96 + flag(c.unpitched) * 128;
+    let ticks = bar.end.min(c.end) - bar.start.max(c.start);
+    let bits = 96 + u32::from(c.unpitched) * 128;
     let chord = c.keys;
     let to = push_span(write, values, ticks, bits, chord, heads, keys, from);
     free_ends(

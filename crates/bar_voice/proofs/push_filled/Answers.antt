@@ -1,4 +1,4 @@
-use Prim.Native.Nat.{◌+◌, ◌<◌, ◌≤◌, ◌^◌}
+use Prim.Native.Nat.{◌<◌, ◌≤◌}
 use mathlib.Core.List.{List}
 use mathlib.Core.Path.{◌≡◌, sym, ap, ◌∙◌}
 use native.Mathlib.Omega.{arith}
@@ -72,11 +72,6 @@ push_gap_and_chord-s-requires c =
       rw read (mid_room pre.4 at.invariant inside early),
     )
 
-pub overflow_add-j : goal.overflow_add-j
-overflow_add-j c =
-    let few : c.loop-j.j + 1 < 2 ^ 64 = omega (arith, c.loop-j-test.true) in
-    record { fits = few }
-
 pub loop-j-preserved : goal.loop-j-preserved
 loop-j-preserved c =
     -- at chord j of the voice
@@ -86,7 +81,7 @@ loop-j-preserved c =
     c.voice_chord-c.ensures ∙ sym (voice_get c.args.n c.args.work.now c.args.v c.args.len c.loop-j.j c.loop-j-test.true) in
     -- it starts before the bar's end
     let early : (chord_of voice c.loop-j.j).start < c.args.bar.end = rw (ap (λ (d : Chord). d.start) read) at c.if-bar-c.false in
-    rw (c.smaller-tick.ensures, ap (λ (d : Chord). d.end) read)
+    rw (c.min-tick.ensures, ap (λ (d : Chord). d.end) read)
     (mid_more c.requires.4 c.loop-j.invariant inside early
     c.requires.0.some_ticks c.requires.2
     (rw read at c.push_gap_and_chord-s.ensures))

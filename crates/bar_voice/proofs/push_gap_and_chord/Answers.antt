@@ -23,8 +23,8 @@ push_rests-rests-requires c =
     let chord : List Item = chord_in (quarter c.args.values.now) c.args.bar.start c.args.bar.end (chord_of c.args.c) in
     let pre = c.requires in (
       pre.0,
-      omega (arith, pre.2, pre.3, c.larger.ensures),
-      rw c.larger.ensures (going_room pre.4 (going_start _ _ _ _ _) gap chord refl),
+      omega (arith, pre.2, pre.3, c.max.ensures),
+      rw c.max.ensures (going_room pre.4 (going_start _ _ _ _ _) gap chord refl),
     )
 
 pub push_chord-requires : goal.push_chord-requires
@@ -33,7 +33,7 @@ push_chord-requires c =
     let gap : List Item = rests (quarter c.args.values.now) (max c.args.bar.start c.args.c.start - c.args.tick) in
     let chord : List Item = chord_in (quarter c.args.values.now) c.args.bar.start c.args.bar.end (chord_of c.args.c) in
     let pre = c.requires in
-    let put = rw c.larger.ensures at c.push_rests-rests.ensures in (
+    let put = rw c.max.ensures at c.push_rests-rests.ensures in (
       pre.0,
       pre.1,
       sum_fits _ _ _ _ _ _ pre.3 pre.2 put.left (left_few _ _ pre.0.some_ticks) (omega arith),
@@ -46,7 +46,7 @@ returns c =
     let gap : List Item = rests (quarter c.args.values.now) (max c.args.bar.start c.args.c.start - c.args.tick) in
     let chord : List Item = chord_in (quarter c.args.values.now) c.args.bar.start c.args.bar.end (chord_of c.args.c) in
     let pre = c.requires in
-    let put = rw c.larger.ensures at c.push_rests-rests.ensures in
+    let put = rw c.max.ensures at c.push_rests-rests.ensures in
     let pushed = c.push_chord.ensures in
     record {
       items = going_end pre.4 (going_more pre.4 (going_start _ _ _ _ _) gap chord refl put.items) pushed.items;

@@ -1,7 +1,7 @@
-use mathlib.Core.Path.{◌≡◌, sym, ap, ◌∙◌}
+use mathlib.Core.Path.{◌≡◌, sym, ap, subst, ◌∙◌}
 use native.Mathlib.Omega.{arith}
 use Rattle.rules.specs.Voices.{Chord}
-use Rattle.bar_voice.specs.Voices.{voice_of, chord_of}
+use Rattle.bar_voice.specs.Voices.{voice_of, chord_of, Skipped}
 use Rattle.bar_voice.proofs.VoiceWalk.{voice_length, voice_get, can_read, past_more}
 use Rattle.bar_voice.proofs.skip_past.Goals as goal
 
@@ -33,4 +33,7 @@ pub returns : goal.returns
 returns c =
     let given = c.args in
     let all = voice_length given.n given.work.now given.v given.len in
-    record { past = c.loop-j.invariant; here = λ h. absurd (omega (arith, c.loop-j-test.false)) }
+    let within = c.loop-j.invariant.within in
+    let last : c.loop-j.j ≡ c.args.len = omega arith in
+    subst (Skipped given.tick (voice_of given.n given.work.now given.v given.len)) last
+    (record { past = c.loop-j.invariant; here = λ h. absurd (omega arith) })
