@@ -5,7 +5,8 @@ use mathlib.Core.Path.{◌≡◌, refl}
 use Rattle.piece_text.specs.Text.{Reading, stepped, read_on, nothing_read, ended}
 use Rattle.piece_text.specs.Held.{ReadingHeld, Answers}
 use Rattle.piece_text.specs.declared.Reader.{Reader}
-use Rattle.piece_text.specs.declared.Text.{Text}
+use Rattle.piece_text.specs.declared.Counts.{Counts}
+use Rattle.std.specs.Prelude.{Option}
 use Rattle.piece_input.specs.Input.{SoFar, ReadText}
 
 read_both : (a : Reading) (xs ys : List ℕ) → read_on (read_on a xs) ys ≡ read_on a (xs ++ ys)
@@ -22,6 +23,6 @@ pub none_read : (r : Reader) (ss ds ws : List ℕ) → ((ss ds ws : List ℕ) �
 unfolding read_on
 none_read r ss ds ws h = record { bytes = []; held = h ss ds ws }
 
-pub text_read : (r : Reader) (t : Text) {ss₀ ds₀ ws₀ ss ds ws : List ℕ} → SoFar r ss₀ ds₀ ws₀
+pub text_read : (r : Reader) (t : Option Counts) {ss₀ ds₀ ws₀ ss ds ws : List ℕ} → SoFar r ss₀ ds₀ ws₀
     → ((a : Reading) → ReadingHeld a r ss₀ ds₀ ws₀ → Answers (ended a) t ss ds ws) → ReadText t ss ds ws
 text_read r t h step = record { bytes = h.bytes; held = step (read_on nothing_read h.bytes) h.held }

@@ -1,11 +1,12 @@
 -- What the arrays hold of a text's numbers, and what is answered at its end.
 use Rattle.std.specs.Prelude.{ℕ, ◌≤◌, ◌<◌, ◌^◌, List, ◌≡◌, length, take}
 use Rattle.std.proofs.Math.Option.{Option, none, some}
+use Rattle.std.specs.Prelude.{Some, None}
+use Rattle.std.specs.Prelude as std
 use Rattle.rules.specs.Piece.{Piece, piece}
 use Rattle.rules.specs.Refusals.{first_number, piece_refusals}
 use Rattle.piece_text.specs.declared.Counts.{Counts}
 use Rattle.piece_text.specs.declared.Reader.{Reader}
-use Rattle.piece_text.specs.declared.Text as answer
 use Rattle.piece_text.specs.Text.{Reading}
 
 -- where counting stops: more than 65,535 counts of 32 bits can add up to
@@ -34,11 +35,11 @@ pub record ReadingHeld (a : Reading) (r : Reader) (ss ds ws : List ℕ) : Type 0
   pub numbers : PieceHeld a.numbers r.counts ss ds ws
 
 -- the answer is right for a text's piece
-unfoldable pub Answers : Option Piece → answer.Text → List ℕ → List ℕ → List ℕ → Type 0
-Answers none answer.TheVariants.Bad ss ds ws = Unit {0}
-Answers none (answer.TheVariants.Lines c) ss ds ws = ⊥
-Answers (some x) answer.TheVariants.Bad ss ds ws = ⊥
-Answers (some x) (answer.TheVariants.Lines c) ss ds ws = PieceHeld x c ss ds ws
+unfoldable pub Answers : Option Piece → std.Option Counts → List ℕ → List ℕ → List ℕ → Type 0
+Answers none None ss ds ws = Unit {0}
+Answers none (Some c) ss ds ws = ⊥
+Answers (some x) None ss ds ws = ⊥
+Answers (some x) (Some c) ss ds ws = PieceHeld x c ss ds ws
 
 -- the arrays have room for all
 pub record Fit (c : Counts) (ss ds ws : List ℕ) : Type 0 where

@@ -4,23 +4,32 @@
 ghost use Rattle.std.specs.Prelude.{ℕ, ◌*◌, ◌≤◌, ◌<◌, List, [], ◌∷◌, ◌++◌, ◌⊎◌, ◌≡◌, length};
 ghost use Rattle.rules.specs.Piece.{Piece, piece};
 ghost use Rattle.rules.specs.Refusals.{first_number, piece_refusals};
-ghost use Rattle.piece_text.specs.Text.{is_digit, is_blank, ends_number, spoiled, with_digit, number_ended, line_ended, place_after, three_lines, put_number, put_begun, Reading, stepped, read_on, nothing_read, ended, text_piece};
+ghost use Rattle.basics.specs.Refusals.{number as Refusal·number, number_of};
+ghost use Rattle.piece_text.specs.Text.{is_blank, ends_number, next_line, spoiled, with_digit, number_ended, line_ended, place_after, three_lines, put_number, put_begun, Reading, stepped, read_on, nothing_read, ended, text_piece};
 ghost use Rattle.piece_text.specs.Held.{Counted, Held, PieceHeld, ReadingHeld, Answers, Fit, Due};
 
-use basics::LARGEST_SIZE;
+use basics::{LARGEST_SIZE, Refusal};
 
-// How far a text is read: the lines ended, whether the line has a byte, the number begun, and whether the text is bad.
-#[derive(Clone, Copy)]
+// The lines of a text, one for each array, and what stands behind them.
+#[derive(Clone, Copy, Debug, PartialEq, Eq)]
+pub enum Line {
+    Sizes,
+    Deltas,
+    Words,
+    End,
+}
+
+// How far a text is read: its line, whether that has a byte, the number begun, and whether the text is bad.
+#[derive(Clone, Copy, Debug, PartialEq, Eq)]
 pub struct Place {
-    pub line: u32,
+    pub line: Line,
     pub started: bool,
-    pub begun: bool,
-    pub value: u32,
+    pub begun: Option<u32>,
     pub bad: bool,
 }
 
 // How many numbers each line has.
-#[derive(Clone, Copy)]
+#[derive(Clone, Copy, Debug, PartialEq, Eq)]
 pub struct Counts {
     pub sizes: usize,
     pub deltas: usize,
@@ -33,70 +42,49 @@ pub struct Reader {
     pub counts: Counts,
 }
 
-// What a text is: not three lines of decimals, or three lines of so many numbers.
-#[derive(Clone, Copy)]
-pub enum Text {
-    Bad,
-    Lines(Counts),
-}
-
-fn is_digit(b: u8) -> bool
-    ensures { result ≡ is_digit b }
-{
-    if b < 48 {
-        return false;
-    }
-    b <= 57
-}
-
 fn is_blank(b: u8) -> bool
     ensures { result ≡ is_blank b }
 {
-    if b == 32 {
-        return true;
-    }
-    if b == 9 {
-        return true;
-    }
-    b == 13
+    matches!(b, b' ' | b'\t' | b'\r')
 }
 
 fn ends_number(b: u8) -> bool
     ensures { result ≡ ends_number b }
 {
-    if is_blank(b) {
-        return true;
+    is_blank(b) || b == b'\n'
+}
+
+impl Line {
+    fn next(self) -> Line
+        ensures { result ≡ next_line self }
+    {
+        match self {
+            Line::Sizes => Line::Deltas,
+            Line::Deltas => Line::Words,
+            Line::Words | Line::End => Line::End,
+        }
     }
-    b == 10
 }
 
 impl Place {
     fn spoil(self) -> Place
         ensures { result ≡ spoiled self }
     {
-        Place {
-            line: self.line,
-            started: self.started,
-            begun: self.begun,
-            value: self.value,
-            bad: true,
-        }
+        Place { bad: true, ..self }
     }
 
     fn digit(self, b: u8) -> Place
         requires { 48 ≤ b }
         ensures { result ≡ with_digit self b }
     {
-        let value = self.value as u64 * 10 + (b as u64 - 48);
+        let value = self.begun.unwrap_or(0) as u64 * 10 + (b as u64 - 48);
         if 4294967295 < value {
             return self.spoil();
         }
         Place {
-            line: self.line,
             started: true,
-            begun: true,
-            value: value as u32,
-            bad: self.bad,
+            begun: Some(value as u32),
+            ..self
         }
     }
 
@@ -104,24 +92,20 @@ impl Place {
         ensures { result ≡ number_ended self }
     {
         Place {
-            line: self.line,
             started: true,
-            begun: false,
-            value: 0,
-            bad: self.bad,
+            begun: None,
+            ..self
         }
     }
 
     fn end_line(self) -> Place
-        requires { self.line ≤ 2 }
         ensures { result ≡ line_ended self }
     {
         Place {
-            line: self.line + 1,
+            line: self.line.next(),
             started: false,
-            begun: false,
-            value: 0,
-            bad: self.bad,
+            begun: None,
+            ..self
         }
     }
 
@@ -129,16 +113,16 @@ impl Place {
     fn after(self, b: u8) -> Place
         ensures { result ≡ place_after self b }
     {
-        if 2 < self.line {
+        if self.line == Line::End {
             return self.spoil();
         }
-        if is_digit(b) {
+        if b.is_ascii_digit() {
             return self.digit(b);
         }
         if is_blank(b) {
             return self.end_number();
         }
-        if b == 10 {
+        if b == b'\n' {
             return self.end_line();
         }
         self.spoil()
@@ -151,13 +135,11 @@ impl Place {
         if self.bad {
             return false;
         }
-        if self.line == 3 {
-            return true;
+        match self.line {
+            Line::End => true,
+            Line::Words => self.started,
+            Line::Sizes | Line::Deltas => false,
         }
-        if self.line == 2 {
-            return self.started;
-        }
-        false
     }
 }
 
@@ -180,7 +162,7 @@ fn store(xs: &mut [u32], n: usize, v: u32) -> usize
 
 // Stores a number of a line in its array.
 fn store_number(
-    line: u32,
+    line: Line,
     v: u32,
     counts: Counts,
     sizes: &mut [u32],
@@ -190,31 +172,21 @@ fn store_number(
     ensures { (x : Piece) → PieceHeld x counts sizes.old deltas.old words.old
         → PieceHeld (put_number line v x) result sizes.new deltas.new words.new }
 {
-    if line == 0 {
-        let n = store(sizes, counts.sizes, v);
-        return Counts {
-            sizes: n,
-            deltas: counts.deltas,
-            words: counts.words,
-        };
+    match line {
+        Line::Sizes => {
+            let sizes = store(sizes, counts.sizes, v);
+            Counts { sizes, ..counts }
+        }
+        Line::Deltas => {
+            let deltas = store(deltas, counts.deltas, v);
+            Counts { deltas, ..counts }
+        }
+        Line::Words => {
+            let words = store(words, counts.words, v);
+            Counts { words, ..counts }
+        }
+        Line::End => counts,
     }
-    if line == 1 {
-        let n = store(deltas, counts.deltas, v);
-        return Counts {
-            sizes: counts.sizes,
-            deltas: n,
-            words: counts.words,
-        };
-    }
-    if line == 2 {
-        let n = store(words, counts.words, v);
-        return Counts {
-            sizes: counts.sizes,
-            deltas: counts.deltas,
-            words: n,
-        };
-    }
-    counts
 }
 
 // Stores the number begun, where there is one.
@@ -228,10 +200,10 @@ fn store_begun(
     ensures { (x : Piece) → PieceHeld x counts sizes.old deltas.old words.old
         → PieceHeld (put_begun at x) result sizes.new deltas.new words.new }
 {
-    if at.begun {
-        return store_number(at.line, at.value, counts, sizes, deltas, words);
+    match at.begun {
+        Some(v) => store_number(at.line, v, counts, sizes, deltas, words),
+        None => counts,
     }
-    counts
 }
 
 // One byte read.
@@ -258,10 +230,9 @@ pub fn start() -> Reader
 {
     Reader {
         at: Place {
-            line: 0,
+            line: Line::Sizes,
             started: false,
-            begun: false,
-            value: 0,
+            begun: None,
             bad: false,
         },
         counts: Counts {
@@ -284,84 +255,97 @@ pub fn read_bytes(
         → ReadingHeld (read_on a bytes.now) result sizes.new deltas.new words.new }
 {
     let mut state = reader;
-    let mut i = 0;
-    while i < bytes.len() {
-        state = step(state, bytes[i], sizes, deltas, words);
-        i += 1;
+    for b in bytes {
+        state = step(state, *b, sizes, deltas, words);
     }
     state
 }
 
-// The end of a text.
-pub fn finish(reader: Reader, sizes: &mut [u32], deltas: &mut [u32], words: &mut [u32]) -> Text
+// The end of a text: how many numbers its lines have, unless it is not three lines of decimals.
+pub fn finish(
+    reader: Reader,
+    sizes: &mut [u32],
+    deltas: &mut [u32],
+    words: &mut [u32],
+) -> Option<Counts>
     ensures { (a : Reading) → ReadingHeld a reader sizes.old deltas.old words.old
         → Answers (ended a) result sizes.new deltas.new words.new }
 {
     let at = reader.at;
     let counts = reader.counts;
     if at.has_three_lines() {
-        return Text::Lines(store_begun(at, counts, sizes, deltas, words));
+        return Some(store_begun(at, counts, sizes, deltas, words));
     }
-    Text::Bad
+    None
 }
 
-// A whole text: what it is, its numbers in the arrays.
-pub fn read_text(text: &[u8], sizes: &mut [u32], deltas: &mut [u32], words: &mut [u32]) -> Text
+// A whole text, its numbers in the arrays.
+pub fn read_text(
+    text: &[u8],
+    sizes: &mut [u32],
+    deltas: &mut [u32],
+    words: &mut [u32],
+) -> Option<Counts>
     ensures { Answers (text_piece text.now) result sizes.new deltas.new words.new }
 {
     let reader = read_bytes(start(), text, sizes, deltas, words);
     finish(reader, sizes, deltas, words)
 }
 
-// The number of a piece with these sizes and more than 500,000 deltas or words: 1, 2 or 3.
-fn large_number(sizes: &[u32], deltas: usize, words: usize) -> u32
+// Why a piece with these sizes and more than 500,000 deltas or words is refused: 1, 2 or 3.
+fn large_number(sizes: &[u32], deltas: usize, words: usize) -> Refusal
     requires { (500000 < deltas) ⊎ (500000 < words) }
-    ensures result_nonzero { 0 < result }
+    ensures result_nonzero { 0 < Refusal·number result }
     ensures by_index { (ds ws : List ℕ) → Counted deltas (length ds) → Counted words (length ws)
-        → result ≡ first_number (piece_refusals (piece sizes.now ds ws)) }
+        → Refusal·number result ≡ first_number (piece_refusals (piece sizes.now ds ws)) }
 {
     if sizes.len() < 2 {
-        return 1;
+        return Refusal::SizesDisagree;
     }
     if LARGEST_SIZE < sizes[1] {
-        return 1;
+        return Refusal::SizesDisagree;
     }
-    let tracks = basics::size(sizes[1]);
+    let tracks = sizes[1] as usize;
     if sizes.len() != 2 + tracks {
-        return 1;
+        return Refusal::SizesDisagree;
     }
     if LARGEST_SIZE < sizes[0] {
-        return 1;
+        return Refusal::SizesDisagree;
     }
     let events = admission::total(&sizes[2..]);
     if deltas as u64 != events {
-        return 1;
+        return Refusal::SizesDisagree;
     }
     if words as u64 != events {
-        return 1;
+        return Refusal::SizesDisagree;
     }
     if sizes[0] == 0 {
-        return 2;
+        return Refusal::DivisionZero;
     }
-    3
+    Refusal::TooManyEvents
 }
 
-// The number of a piece that the arrays do not hold whole; 0 where they do.
-pub fn number_due(counts: Counts, sizes: &[u32], deltas: &[u32], words: &[u32]) -> u32
+// Whether the arrays hold a piece whole, and else why it is refused.
+pub fn number_due(
+    counts: Counts,
+    sizes: &[u32],
+    deltas: &[u32],
+    words: &[u32],
+) -> Result<(), Refusal>
     requires { (length sizes.now ≡ 65537) × (length deltas.now ≡ 500000) × (length words.now ≡ 500000) }
-    ensures fits { result ≡ 0 → Fit counts sizes.now deltas.now words.now }
+    ensures fits { number_of result ≡ 0 → Fit counts sizes.now deltas.now words.now }
     ensures due { (x : Piece) → PieceHeld x counts sizes.now deltas.now words.now
-        → Due x counts sizes.now deltas.now words.now result }
+        → Due x counts sizes.now deltas.now words.now (number_of result) }
 {
     let n = counts.sizes;
     if sizes.len() < n {
-        return 1;
+        return Err(Refusal::SizesDisagree);
     }
     if deltas.len() < counts.deltas {
-        return large_number(&sizes[..n], counts.deltas, counts.words);
+        return Err(large_number(&sizes[..n], counts.deltas, counts.words));
     }
     if words.len() < counts.words {
-        return large_number(&sizes[..n], counts.deltas, counts.words);
+        return Err(large_number(&sizes[..n], counts.deltas, counts.words));
     }
-    0
+    Ok(())
 }

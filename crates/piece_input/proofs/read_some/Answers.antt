@@ -4,4 +4,4 @@ use Rattle.piece_input.proofs.read_some.Goals as goal
 
 pub returns : goal.returns
 returns c =
-    chunk_more _ _ _ c.requires c.read_bytes-next.ensures
+    chunk_more _ _ _ c.requires c.read_bytes.ensures

@@ -44,7 +44,7 @@ returns-then-sizes-tracks c =
     let x = c.args.sizes.now in record {
       result_nonzero = omega arith;
       by_index = λ ds ws kd kw.
-          sym (number_one (piece x ds ws) (disagrees (piece x ds ws) (λ a. omega (arith, a.sizes, c.size-tracks.ensures))));
+          sym (number_one (piece x ds ws) (disagrees (piece x ds ws) (λ a. omega (arith, a.sizes))));
     }
 
 pub returns-then-sizes-gt-LARGEST_SIZE-2 : goal.returns-then-sizes-gt-LARGEST_SIZE-2
@@ -59,7 +59,7 @@ pub returns-then-deltas-events : goal.returns-then-deltas-events
 returns-then-deltas-events c =
     let x = c.args.sizes.now in
     let words : (i : ℕ) → get_or x i 0 < 2 ^ 32 = λ i. omega (arith, c.type_inv.sizes i) in
-    let many : length x ≡ 2 + get_or x 1 0 = omega (arith, c.size-tracks.ensures) in
+    let many : length x ≡ 2 + get_or x 1 0 = omega arith in
     let few : get_or x 1 0 ≤ 65535 = omega (arith, c.if-sizes-gt-LARGEST_SIZE.false) in
     let summed : c.total-events.result ≡ sum (drop 2 x) = c.total-events.ensures ∙ ap sum (take_rest 2 x) in
     let other : c.args.deltas ≡ sum (drop 2 x) → ⊥ =
@@ -73,7 +73,7 @@ pub returns-then-words-events : goal.returns-then-words-events
 returns-then-words-events c =
     let x = c.args.sizes.now in
     let words : (i : ℕ) → get_or x i 0 < 2 ^ 32 = λ i. omega (arith, c.type_inv.sizes i) in
-    let many : length x ≡ 2 + get_or x 1 0 = omega (arith, c.size-tracks.ensures) in
+    let many : length x ≡ 2 + get_or x 1 0 = omega arith in
     let few : get_or x 1 0 ≤ 65535 = omega (arith, c.if-sizes-gt-LARGEST_SIZE.false) in
     let summed : c.total-events.result ≡ sum (drop 2 x) = c.total-events.ensures ∙ ap sum (take_rest 2 x) in
     let other : c.args.words ≡ sum (drop 2 x) → ⊥ =
@@ -87,7 +87,7 @@ pub returns-then-sizes-eq0 : goal.returns-then-sizes-eq0
 returns-then-sizes-eq0 c =
     let x = c.args.sizes.now in
     let words : (i : ℕ) → get_or x i 0 < 2 ^ 32 = λ i. omega (arith, c.type_inv.sizes i) in
-    let many : length x ≡ 2 + get_or x 1 0 = omega (arith, c.size-tracks.ensures) in
+    let many : length x ≡ 2 + get_or x 1 0 = omega arith in
     let few : get_or x 1 0 ≤ 65535 = omega (arith, c.if-sizes-gt-LARGEST_SIZE.false) in
     let summed : c.total-events.result ≡ sum (drop 2 x) = c.total-events.ensures ∙ ap sum (take_rest 2 x) in
     let division : get_or x 0 0 ≤ 65535 = omega (arith, c.if-sizes-gt-LARGEST_SIZE-2.false) in record {
@@ -102,7 +102,7 @@ pub returns : goal.returns
 returns c =
     let x = c.args.sizes.now in
     let words : (i : ℕ) → get_or x i 0 < 2 ^ 32 = λ i. omega (arith, c.type_inv.sizes i) in
-    let many : length x ≡ 2 + get_or x 1 0 = omega (arith, c.size-tracks.ensures) in
+    let many : length x ≡ 2 + get_or x 1 0 = omega arith in
     let few : get_or x 1 0 ≤ 65535 = omega (arith, c.if-sizes-gt-LARGEST_SIZE.false) in
     let summed : c.total-events.result ≡ sum (drop 2 x) = c.total-events.ensures ∙ ap sum (take_rest 2 x) in
     let division : get_or x 0 0 ≤ 65535 = omega (arith, c.if-sizes-gt-LARGEST_SIZE-2.false) in record {

@@ -1,48 +1,22 @@
 -- `piece_text::store_number` stores a number in its line's array.
 use Rattle.piece_text.specs.Text.{put_number}
-use borrow.Author.Tests.{eq-eqb, ne_eqb}
-use borrow.Author.Rules.{rules}
 use Rattle.piece_text.proofs.store_number.Goals as goal
 
-pub store-n-requires : goal.store-n-requires
-store-n-requires c = search rules
-
-pub shape_of-sizes-then-line-eq0 : goal.shape_of-sizes-then-line-eq0
-shape_of-sizes-then-line-eq0 c = search rules
-
-pub returns-then-line-eq0 : goal.returns-then-line-eq0
+pub returns-in-Sizes : goal.returns-in-Sizes
 unfolding put_number
-returns-then-line-eq0 c =
-    λ x h. rw (eq-eqb _ _ c.if-line-eq0.true)
-    (record { sizes = c.store-n.ensures x.sizes h.sizes; deltas = h.deltas; words = h.words })
+returns-in-Sizes c =
+    λ x h. rw c.in-Sizes.is (record { sizes = c.store-sizes.ensures x.sizes h.sizes; deltas = h.deltas; words = h.words })
 
-pub store-n-requires-then-line-eq1 : goal.store-n-requires-then-line-eq1
-store-n-requires-then-line-eq1 c = search rules
-
-pub shape_of-deltas-then-line-eq1 : goal.shape_of-deltas-then-line-eq1
-shape_of-deltas-then-line-eq1 c = search rules
-
-pub returns-then-line-eq1 : goal.returns-then-line-eq1
+pub returns-in-Deltas : goal.returns-in-Deltas
 unfolding put_number
-returns-then-line-eq1 c =
-    λ x h. rw (ne_eqb _ _ c.if-line-eq0.false, eq-eqb _ _ c.if-line-eq1.true)
-    (record { sizes = h.sizes; deltas = c.store-n-then-line-eq1.ensures x.deltas h.deltas; words = h.words })
+returns-in-Deltas c =
+    λ x h. rw c.in-Deltas.is (record { sizes = h.sizes; deltas = c.store-deltas.ensures x.deltas h.deltas; words = h.words })
 
-pub store-n-requires-then-line-eq2 : goal.store-n-requires-then-line-eq2
-store-n-requires-then-line-eq2 c = search rules
-
-pub shape_of-words-then-line-eq2 : goal.shape_of-words-then-line-eq2
-shape_of-words-then-line-eq2 c = search rules
-
-pub returns-then-line-eq2 : goal.returns-then-line-eq2
+pub returns-in-Words : goal.returns-in-Words
 unfolding put_number
-returns-then-line-eq2 c =
-    λ x h. rw (
-      ne_eqb _ _ c.if-line-eq0.false,
-      ne_eqb _ _ c.if-line-eq1.false,
-      eq-eqb _ _ c.if-line-eq2.true,
-    ) (record { sizes = h.sizes; deltas = h.deltas; words = c.store-n-then-line-eq2.ensures x.words h.words })
+returns-in-Words c =
+    λ x h. rw c.in-Words.is (record { sizes = h.sizes; deltas = h.deltas; words = c.store-words.ensures x.words h.words })
 
-pub returns : goal.returns
+pub returns-in-End : goal.returns-in-End
 unfolding put_number
-returns c = λ x h. rw (ne_eqb _ _ c.if-line-eq0.false, ne_eqb _ _ c.if-line-eq1.false, ne_eqb _ _ c.if-line-eq2.false) h
+returns-in-End c = λ x h. rw c.in-End.is h
