@@ -7,8 +7,8 @@ ghost use Rattle.rules.specs.Piece.{piece, sizes_agree, ticks_per_quarter, is_on
 ghost use Rattle.rules.specs.RawNotes.{parts, most_notes};
 ghost use Rattle.tracks.specs.Spans.{IsSpan, FirstSpan};
 
-use basics::{MOST_PARTS, size, wide};
-use track_events::{block_end, cut, is_on};
+use basics::MOST_PARTS;
+use track_events::{cut, is_on};
 
 // A track as a stretch of deltas and words: &deltas[from..to] and &words[from..to].
 #[derive(Clone, Copy)]
@@ -28,7 +28,7 @@ pub fn ticks_per_quarter(sizes: &[u32]) -> u64
     if division / 32768 % 2 == 1 {
         return 480;
     }
-    wide(division)
+    u64::from(division)
 }
 
 // The first track; 0..0 where there is no track.
@@ -40,22 +40,23 @@ pub fn first_track(sizes: &[u32]) -> Span
     }
     Span {
         from: 0,
-        to: size(sizes[2]),
+        to: sizes[2] as usize,
     }
 }
 
+// Words are counted block by block, for speed: a block's count is no wider than a word.
+const BLOCK: usize = 256;
+
 // How many words of a block are note-ons above velocity 0.
-fn ons_in_block(words: &[u32], from: usize, to: usize) -> u32
-    requires { (from ≤ to) × (to ≤ length words.now) × (to ≤ from + 256) }
-    ensures { (result ≤ to - from) × (result + length (keep is_on (drop to words.now)) ≡ length (keep is_on (drop from words.now))) }
+fn ons_in_block(block: &[u32]) -> u32
+    requires { length block.now ≤ 256 }
+    ensures { result ≡ length (keep is_on block.now) }
 {
     let mut n: u32 = 0;
-    let mut i = from;
-    while i < to {
-        if is_on(words[i]) {
+    for w in block {
+        if is_on(*w) {
             n += 1;
         }
-        i += 1;
     }
     n
 }
@@ -65,11 +66,8 @@ fn ons(words: &[u32]) -> usize
     ensures { result ≡ length (keep is_on words.now) }
 {
     let mut n = 0;
-    let mut i = 0;
-    while i < words.len() {
-        let to = block_end(i, words.len());
-        n += size(ons_in_block(words, i, to));
-        i = to;
+    for block in words.chunks(BLOCK) {
+        n += ons_in_block(block) as usize;
     }
     n
 }
@@ -78,21 +76,12 @@ fn ons(words: &[u32]) -> usize
 pub fn has_notes(words: &[u32]) -> bool
     ensures { result ≡ any is_on words.now }
 {
-    let mut at = 0;
-    while at < words.len() {
-        if is_on(words[at]) {
+    for word in words {
+        if is_on(*word) {
             return true;
         }
-        at += 1;
     }
     false
-}
-
-// The larger number.
-fn larger(m: usize, n: usize) -> usize
-    ensures { result ≡ max m n }
-{
-    if m < n { n } else { m }
 }
 
 // The number of parts: at most 32 tracks with notes are parts. It reads no track behind its first note.
@@ -102,17 +91,15 @@ pub fn count_parts(sizes: &[u32], deltas: &[u32], words: &[u32]) -> usize
 {
     let mut n = 0;
     let mut from = 0;
-    let mut i = 2;
-    while i < sizes.len() {
+    for i in 2..sizes.len() {
         if n == MOST_PARTS {
             return n;
         }
-        let to = from + size(sizes[i]);
+        let to = from + sizes[i] as usize;
         if has_notes(cut(words, from, to)) {
             n += 1;
         }
         from = to;
-        i += 1;
     }
     n
 }
@@ -124,7 +111,7 @@ fn with_track(most: usize, words: &[u32]) -> usize
     if words.len() <= most {
         return most;
     }
-    larger(most, ons(words))
+    most.max(ons(words))
 }
 
 // N: the most note-ons in one track.
@@ -134,12 +121,10 @@ pub fn most_notes(sizes: &[u32], deltas: &[u32], words: &[u32]) -> usize
 {
     let mut most = 0;
     let mut from = 0;
-    let mut t = 2;
-    while t < sizes.len() {
-        let to = from + size(sizes[t]);
+    for t in 2..sizes.len() {
+        let to = from + sizes[t] as usize;
         most = with_track(most, cut(words, from, to));
         from = to;
-        t += 1;
     }
     most
 }
@@ -153,9 +138,8 @@ pub fn part_track(sizes: &[u32], deltas: &[u32], words: &[u32], k: usize) -> Spa
 {
     let mut before = k;
     let mut from = 0;
-    let mut i = 2;
-    while i < sizes.len() {
-        let to = from + size(sizes[i]);
+    for i in 2..sizes.len() {
+        let to = from + sizes[i] as usize;
         if has_notes(cut(words, from, to)) {
             if before == 0 {
                 return Span { from, to };
@@ -163,7 +147,6 @@ pub fn part_track(sizes: &[u32], deltas: &[u32], words: &[u32], k: usize) -> Spa
             before -= 1;
         }
         from = to;
-        i += 1;
     }
     Span { from: 0, to: 0 }
 }

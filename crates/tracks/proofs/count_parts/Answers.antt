@@ -1,3 +1,4 @@
+use mathlib.Core.Path.{refl}
 use native.Mathlib.Omega.{arith}
 use Rattle.tracks.proofs.Cuts.{cut_words, parts_start, parts_full, parts_more, parts_same, parts_end}
 use Rattle.tracks.proofs.count_parts.Goals as goal
@@ -10,10 +11,10 @@ pub returns-then-n-eq-MOST_PARTS : goal.returns-then-n-eq-MOST_PARTS
 returns-then-n-eq-MOST_PARTS c = parts_full c.loop-i.invariant c.if-n-eq-MOST_PARTS.true
 
 pub overflow_add-to : goal.overflow_add-to
-overflow_add-to c = omega (arith, (cut_words c.loop-i.invariant.cut (omega arith) c.size.ensures).1)
+overflow_add-to c = omega (arith, (cut_words c.loop-i.invariant.cut (omega arith) refl).1)
 
 pub cut-requires : goal.cut-requires
-cut-requires c = cut_words c.loop-i.invariant.cut (omega arith) c.size.ensures
+cut-requires c = cut_words c.loop-i.invariant.cut (omega arith) refl
 
 pub overflow_add-n : goal.overflow_add-n
 overflow_add-n c = omega (arith, c.loop-i.invariant.few)
@@ -21,11 +22,10 @@ overflow_add-n c = omega (arith, c.loop-i.invariant.few)
 pub loop-i-preserved : goal.loop-i-preserved
 loop-i-preserved c =
     let inv = c.loop-i.invariant in
-    let size = c.size.ensures in
-    let some = rw (c.cut.ensures, size) at c.has_notes.ensures in
+    let some = rw c.cut.ensures at c.has_notes.ensures in
     elim c.if-has_notes.branch [
-      | then-has_notes w ↦ rw (w.n-is, size) (parts_more inv (omega arith) some w.if-has_notes.true c.if-n-eq-MOST_PARTS.false)
-      | else-has_notes w ↦ rw (w.n-is, size) (parts_same inv (omega arith) some w.if-has_notes.false)
+      | then-has_notes w ↦ rw w.n-is (parts_more inv (omega arith) some w.if-has_notes.true c.if-n-eq-MOST_PARTS.false)
+      | else-has_notes w ↦ rw w.n-is (parts_same inv (omega arith) some w.if-has_notes.false)
     ]
 
 pub returns : goal.returns

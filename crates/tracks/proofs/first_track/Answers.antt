@@ -6,4 +6,4 @@ pub returns-then-sizes-lt3 : goal.returns-then-sizes-lt3
 returns-then-sizes-lt3 c = first_none _ c.if-sizes-lt3.true
 
 pub returns : goal.returns
-returns c = rw c.size.ensures (first_some _ c.if-sizes-lt3.false)
+returns c = first_some _ c.if-sizes-lt3.false

@@ -1,3 +1,4 @@
+use mathlib.Core.Path.{refl}
 use native.Mathlib.Omega.{arith}
 use Rattle.tracks.proofs.Cuts.{cut_words, most_start, most_more, most_end}
 use Rattle.tracks.proofs.most_notes.Goals as goal
@@ -6,16 +7,15 @@ pub loop-t-init : goal.loop-t-init
 loop-t-init c = most_start c.requires
 
 pub overflow_add-to : goal.overflow_add-to
-overflow_add-to c = omega (arith, (cut_words c.loop-t.invariant.cut (omega arith) c.size.ensures).1)
+overflow_add-to c = omega (arith, (cut_words c.loop-t.invariant.cut (omega arith) refl).1)
 
 pub cut-requires : goal.cut-requires
-cut-requires c = cut_words c.loop-t.invariant.cut (omega arith) c.size.ensures
+cut-requires c = cut_words c.loop-t.invariant.cut (omega arith) refl
 
 pub loop-t-preserved : goal.loop-t-preserved
 loop-t-preserved c =
-    let size = c.size.ensures in
-    let more = rw (c.cut.ensures, size) at c.with_track-most.ensures in
-    rw size (most_more c.loop-t.invariant (omega arith) more)
+    let more = rw c.cut.ensures at c.with_track-most.ensures in
+    (most_more c.loop-t.invariant (omega arith) more)
 
 pub returns : goal.returns
 returns c = most_end c.loop-t.invariant (omega arith)

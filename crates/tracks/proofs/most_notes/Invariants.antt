@@ -1,11 +1,6 @@
 -- `most_notes` finds the most note-ons. The invariant, `MostSoFar`: the most so far, with the tracks that are left, is the piece's.
-use Prim.Native.Nat.{◌-◌}
-use lib.ListN.{length}
 use Rattle.tracks.proofs.Cuts.{MostSoFar}
 use Rattle.tracks.proofs.most_notes.Given as goal
 
 abbrev pub invariant-loop-t : goal.invariant-loop-t
 invariant-loop-t l = MostSoFar l.sizes l.deltas l.words l.most l.t l.from
-
-abbrev pub decreases-loop-t : goal.decreases-loop-t
-decreases-loop-t l = length l.sizes - l.t

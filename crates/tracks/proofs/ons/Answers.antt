@@ -1,28 +1,34 @@
-use mathlib.Core.Path.{ap}
+use mathlib.Core.List.{List, ◌++◌}
+use mathlib.Core.Path.{◌≡◌, ap, ◌∙◌}
 use native.Mathlib.Omega.{arith}
-use lib.ListN.{length}
+use Prim.Native.Nat.{ℕ, ◌+◌}
+use lib.ListN.{length, length-append}
+use Rattle.rules.specs.Lists.{keep}
 use Rattle.rules.specs.Piece.{is_on}
-use Rattle.laws.proofs.Loops.{keep_done}
+use Rattle.laws.proofs.Lists.{keep_append}
+use Rattle.laws.proofs.Tests.{keep_few}
 use Rattle.tracks.proofs.ons.Goals as goal
 
-pub ons_in_block-requires : goal.ons_in_block-requires
-ons_in_block-requires c = (omega (arith, c.block_end-to.ensures), omega (arith, c.block_end-to.ensures), omega (arith, c.block_end-to.ensures))
+-- the note-ons of a block and of the words behind it
+ons_append : (ws xs ys : List ℕ) → ws ≡ xs ++ ys → length (keep is_on ws) ≡ length (keep is_on xs) + length (keep is_on ys)
+ons_append ws xs ys e = rw (e, keep_append) (length-append (keep is_on xs) (keep is_on ys))
 
-pub overflow_add-n : goal.overflow_add-n
-overflow_add-n c = omega (arith, c.size-n.ensures, c.ons_in_block.ensures.0, c.loop-i.invariant.1)
+pub loop-block-preserved : goal.loop-block-preserved
+loop-block-preserved c =
+    let here = c.loop-block.invariant in
+    let steps = c.in-Some.ensures.steps in
+    let long = ap length steps.1.0 ∙ length-append c.in-Some.block.now c.next.new.self.rest.now in
+    let ons = ons_append c.loop-block.block-iterator.rest.now c.in-Some.block.now c.next.new.self.rest.now steps.1.0 in
+    record {
+      size = steps.0 ∙ here.size;
+      few = omega (arith, keep_few is_on c.in-Some.block.now);
+      count = omega arith;
+      can_next = omega arith;
+      is_finite = tt;
+    }
 
-pub loop-i-smaller : goal.loop-i-smaller
-loop-i-smaller c = omega (arith, c.block_end-to.ensures)
-
-pub loop-i-preserved : goal.loop-i-preserved
-loop-i-preserved c =
-    let here = c.loop-i in
-    let block = c.ons_in_block.ensures in
-    let size = c.size-n.ensures in
-    (omega (arith, c.block_end-to.ensures), omega (arith, block.0, size, here.invariant.1), omega (arith, block.1, size, here.invariant.2))
+none_left : (ws : List ℕ) → length ws ≡ 0 → length (keep is_on ws) ≡ 0
+none_left ws e = omega (arith, keep_few is_on ws)
 
 pub returns : goal.returns
-returns c =
-    let start = c.args in
-    let none = ap length (keep_done is_on start.words.now c.loop-i.i (omega arith)) in
-    omega arith
+returns c = let none = none_left c.loop-block.block-iterator.rest.now c.in-None.ensures.steps.1.0 in omega (arith, c.loop-block.invariant.count)

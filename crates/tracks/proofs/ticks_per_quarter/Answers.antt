@@ -14,4 +14,4 @@ pub returns-then-division-eq1 : goal.returns-then-division-eq1
 returns-then-division-eq1 c = rw (eq-eqb _ _ c.if-division-eq1.true)
 
 pub returns : goal.returns
-returns c = c.wide.ensures ∙ rw (ne_eqb _ _ c.if-division-eq1.false)
+returns c = c.from.ensures ∙ rw (ne_eqb _ _ c.if-division-eq1.false)

@@ -8,4 +8,4 @@ pub returns-then-words-most : goal.returns-then-words-most
 returns-then-words-most c = omega (arith, c.if-words-most.true, keep_few is_on c.args.words.now)
 
 pub returns : goal.returns
-returns c = omega (arith, c.larger.ensures, c.ons.ensures)
+returns c = omega (arith, c.max.ensures, c.ons.ensures)
