@@ -8,30 +8,13 @@ pub fn end_of(texts: &[u8], from: usize) -> usize
     requires { from ≤ length texts.now }
     ensures { (from ≤ result) × (result ≤ length texts.now) }
 {
-    let mut i = from;
-    while i < texts.len() {
-        if texts[i] == 0 {
-            return i;
-        }
-        i += 1;
+    match texts[from..].iter().position(|b| *b == 0) {
+        Some(n) => from + n,
+        None => texts.len(),
     }
-    i
 }
 
 // The n-th text, the first by 0; nothing where the list has no such text.
 pub fn nth(texts: &[u8], n: usize) -> &[u8] {
-    let mut left = n;
-    let mut from = 0;
-    while from < texts.len() {
-        let to = end_of(texts, from);
-        if left == 0 {
-            return &texts[from..to];
-        }
-        if to == texts.len() {
-            break;
-        }
-        left -= 1;
-        from = to + 1;
-    }
-    &texts[..0]
+    texts.split(|b| *b == 0).nth(n).unwrap_or(&[])
 }
