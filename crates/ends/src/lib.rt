@@ -13,7 +13,7 @@ ghost use Rattle.ends.specs.Pass.{track_end, reached, no_counts, begin, finish, 
 ghost use Rattle.ends.specs.Sofar.{taken};
 
 use admission::total;
-use basics::{MOST_PARTS, larger, size};
+use basics::MOST_PARTS;
 use track_events::cut;
 use tracks::has_notes;
 
@@ -35,8 +35,8 @@ fn begin(counts: &mut [[u32; 128]; 16], p: Pass, tick: u64, c: usize, k: usize) 
     Pass {
         tick,
         started: p.started + 1,
-        ended: p.ended,
-        end: larger(p.end, tick + 1),
+        end: p.end.max(tick + 1),
+        ..p
     }
 }
 
@@ -46,19 +46,14 @@ fn finish(counts: &mut [[u32; 128]; 16], p: Pass, tick: u64, c: usize, k: usize)
     ensures { reached counts.new result ≡ finish (reached counts.old p) tick c k }
 {
     if counts[c][k] == 0 {
-        return Pass {
-            tick,
-            started: p.started,
-            ended: p.ended,
-            end: p.end,
-        };
+        return Pass { tick, ..p };
     }
     counts[c][k] -= 1;
     Pass {
         tick,
-        started: p.started,
         ended: p.ended + 1,
-        end: larger(p.end, tick),
+        end: p.end.max(tick),
+        ..p
     }
 }
 
@@ -66,7 +61,7 @@ fn step(counts: &mut [[u32; 128]; 16], p: Pass, delta: u32, word: u32) -> Pass
     requires { (delta ≤ largest_delta) × (well_formed word ≡ true) × Within most_events (reached counts.old p) }
     ensures { reached counts.new result ≡ step (reached counts.old p) (p.tick + delta) word }
 {
-    let tick = p.tick + delta as u64;
+    let tick = p.tick + u64::from(delta);
     let w = track_events::take_apart(word);
     if track_events::is_on(word) {
         return begin(counts, p, tick, w.a as usize, w.b as usize);
@@ -74,12 +69,7 @@ fn step(counts: &mut [[u32; 128]; 16], p: Pass, delta: u32, word: u32) -> Pass
     if track_events::is_off(word) {
         return finish(counts, p, tick, w.a as usize, w.b as usize);
     }
-    Pass {
-        tick,
-        started: p.started,
-        ended: p.ended,
-        end: p.end,
-    }
+    Pass { tick, ..p }
 }
 
 // All counts zero, as a track wants them.
@@ -97,7 +87,7 @@ fn end_of(counts: &mut [[u32; 128]; 16], p: Pass) -> u64
 {
     if p.ended < p.started {
         clear(counts);
-        return larger(p.end, p.tick);
+        return p.end.max(p.tick);
     }
     p.end
 }
@@ -114,10 +104,8 @@ fn end_of_track(counts: &mut [[u32; 128]; 16], deltas: &[u32], words: &[u32]) ->
         ended: 0,
         end: 0,
     };
-    let mut i = 0;
-    while i < deltas.len() {
+    for i in 0..deltas.len() {
         p = step(counts, p, deltas[i], words[i]);
-        i += 1;
     }
     end_of(counts, p)
 }
@@ -139,7 +127,7 @@ fn taken(s: Sofar, e: u64) -> Sofar
     }
     Sofar {
         parts: s.parts + 1,
-        end: larger(s.end, e),
+        end: s.end.max(e),
     }
 }
 
@@ -148,9 +136,7 @@ fn quiet_end(deltas: &[u32], words: &[u32]) -> bool
     requires { Track deltas.now words.now }
     ensures { result ≡ true → track_end (events_of deltas.now words.now) ≤ sum deltas.now }
 {
-    let mut i = deltas.len();
-    while 0 < i {
-        i -= 1;
+    for i in (0..deltas.len()).rev() {
         if track_events::is_on(words[i]) {
             return false;
         }
@@ -202,15 +188,13 @@ pub fn end_of_piece(sizes: &[u32], deltas: &[u32], words: &[u32]) -> u64
     let mut counts = [[0u32; 128]; 16];
     let mut s = Sofar { parts: 0, end: 0 };
     let mut from = 0;
-    let mut i = 2;
-    while i < sizes.len() {
+    for i in 2..sizes.len() {
         if s.parts == MOST_PARTS {
             return s.end;
         }
-        let to = from + size(sizes[i]);
+        let to = from + sizes[i] as usize;
         s = with_track(&mut counts, s, cut(deltas, from, to), cut(words, from, to));
         from = to;
-        i += 1;
     }
     s.end
 }

@@ -7,15 +7,9 @@ const STDOUT: i32 = 1;
 
 // Prints each text.
 fn print_texts(list: &[u8]) {
-    let mut from = 0;
-    while from < list.len() {
-        let to = texts::end_of(list, from);
-        printer::print_text(&list[from..to]);
+    for text in list.split_inclusive(|b| *b == 0) {
+        printer::print_text(text.strip_suffix(b"\0").unwrap_or(text));
         io::write_all(STDOUT, b".\n");
-        if to == list.len() {
-            return;
-        }
-        from = to + 1;
     }
 }
 

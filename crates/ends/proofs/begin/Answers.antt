@@ -6,4 +6,4 @@ pub overflow_add-counts : goal.overflow_add-counts
 overflow_add-counts c = record { fits = omega (arith, c.requires.3.counts c.args.c c.args.k) }
 
 pub returns : goal.returns
-returns c = rw c.larger.ensures
+returns c = rw c.max.ensures

@@ -7,4 +7,4 @@ pub returns-then-counts-c-eq0 : goal.returns-then-counts-c-eq0
 returns-then-counts-c-eq0 c = simp (le-ltb _ _ (le_of_eq c.if-counts-c-eq0.true))
 
 pub returns : goal.returns
-returns c = rw c.larger.ensures (simp (lt-ltb _ _ (pos_of_ne-zero c.if-counts-c-eq0.false)))
+returns c = rw c.max.ensures (simp (lt-ltb _ _ (pos_of_ne-zero c.if-counts-c-eq0.false)))

@@ -9,6 +9,3 @@ use Rattle.ends.proofs.quiet_end.Given as goal
 
 abbrev pub invariant-loop-i : goal.invariant-loop-i
 invariant-loop-i l = (l.i ≤ length l.deltas) × (any is_on (drop l.i l.words) ≡ false)
-
-abbrev pub decreases-loop-i : goal.decreases-loop-i
-decreases-loop-i l = l.i

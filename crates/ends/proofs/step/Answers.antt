@@ -16,7 +16,7 @@ begin-requires c =
 pub returns-then-is_on : goal.returns-then-is_on
 returns-then-is_on c =
     let w = c.take_apart-w.ensures in
-    rw (c.begin.ensures, w.a, w.b) (sym (step_on_lem _ _ _ (sym c.is_on.ensures ∙ c.if-is_on.true)))
+    rw (c.begin.ensures, w.a, w.b, c.from.ensures) (sym (step_on_lem _ _ _ (sym c.is_on.ensures ∙ c.if-is_on.true)))
 
 pub finish-requires : goal.finish-requires
 finish-requires c =
@@ -28,7 +28,7 @@ finish-requires c =
 pub returns-then-is_off : goal.returns-then-is_off
 returns-then-is_off c =
     let w = c.take_apart-w.ensures in
-    rw (c.finish.ensures, w.a, w.b) (sym (step_off _ _ _ (sym c.is_on.ensures ∙ c.if-is_on.false) (sym c.is_off.ensures ∙ c.if-is_off.true)))
+    rw (c.finish.ensures, w.a, w.b, c.from.ensures) (sym (step_off _ _ _ (sym c.is_on.ensures ∙ c.if-is_on.false) (sym c.is_off.ensures ∙ c.if-is_off.true)))
 
 pub returns : goal.returns
-returns c = sym (step_over _ _ _ (sym c.is_on.ensures ∙ c.if-is_on.false) (sym c.is_off.ensures ∙ c.if-is_off.false))
+returns c = rw c.from.ensures (sym (step_over _ _ _ (sym c.is_on.ensures ∙ c.if-is_on.false) (sym c.is_off.ensures ∙ c.if-is_off.false)))

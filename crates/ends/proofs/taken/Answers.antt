@@ -7,4 +7,4 @@ pub returns-then-e-eq0 : goal.returns-then-e-eq0
 returns-then-e-eq0 c = simp (le-ltb _ _ (le_of_eq c.if-e-eq0.true))
 
 pub returns : goal.returns
-returns c = rw c.larger.ensures (simp (lt-ltb _ _ (pos_of_ne-zero c.if-e-eq0.false)))
+returns c = rw c.max.ensures (simp (lt-ltb _ _ (pos_of_ne-zero c.if-e-eq0.false)))
