@@ -102,8 +102,7 @@ fn push_bar(
         (engraving (bars + 1) result nexts.new) }
 {
     let mut at = items;
-    let mut v = 0;
-    while v < 4 {
+    for v in 0..4 {
         let place = 4 * bars + v;
         let r = push_counted(
             write, values, work, n, v, lens[v], nexts[v], bar, counts, place, heads, keys,
@@ -111,7 +110,6 @@ fn push_bar(
         );
         nexts[v] = r.next;
         at = r.at;
-        v += 1;
     }
     at
 }
@@ -147,10 +145,9 @@ pub fn transcribe_track(
         counts.new heads.new keys.new leftovers.new result }
 {
     let mut w = bar_walk::first_bar(values[9], deltas, words);
-    let mut bars = 0;
     let mut items = 0;
     let mut nexts = [0usize; 4];
-    while bars < max_bars {
+    for bars in 0..max_bars {
         let bar = Measure {
             start: w.start,
             end: w.start + w.length(),
@@ -159,12 +156,19 @@ pub fn transcribe_track(
             write, values, work, n, lens, bar, bars, items, &mut nexts, counts, heads, keys,
             leftovers,
         );
-        bars += 1;
         w = w.next_bar();
         if end <= w.start {
-            return Engraving { bars, items, nexts };
+            return Engraving {
+                bars: bars + 1,
+                items,
+                nexts,
+            };
         }
         w = w.take_changes(deltas, words);
     }
-    Engraving { bars, items, nexts }
+    Engraving {
+        bars: max_bars,
+        items,
+        nexts,
+    }
 }

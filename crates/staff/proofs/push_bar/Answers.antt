@@ -43,4 +43,4 @@ shape_of-leftovers c =
 
 pub returns : goal.returns
 returns c =
-    midway_end _ _ _ _ _ _ _ _ _ _ _ c.requires.2 c.loop-v.invariant c.loop-v-test.false _ refl refl refl
+    midway_end _ _ _ _ _ _ _ _ _ _ _ c.requires.2 c.loop-v.invariant (omega arith) _ refl refl refl

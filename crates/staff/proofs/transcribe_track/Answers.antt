@@ -1,7 +1,9 @@
-use Prim.Native.Nat.{◌+◌, ◌<◌, ◌^◌}
-use mathlib.Core.Path.{◌∙◌}
+use Prim.Native.Nat.{ℕ, ◌+◌, ◌<◌, ◌^◌}
+use mathlib.Core.Path.{◌≡◌, ap, subst, ◌∙◌}
 use native.Mathlib.Omega.{arith}
 use Rattle.bar_walk.proofs.WalkLaws.{walking_sane, walking_ready}
+use Rattle.staff.specs.Bars.{engraving}
+use Rattle.staff.specs.Staffs.{StaffPut}
 use Rattle.staff.proofs.StaffWalk.{onward_start, onward_counts, onward_heads, onward_keys, onward_leftovers}
 use Rattle.staff.proofs.StaffWalk.{onward_end_soon, onward_can, onward_more, onward_last, onward_end}
 use Rattle.staff.proofs.transcribe_track.Goals as goal
@@ -34,10 +36,6 @@ push_bar-items-requires c =
           (onward_can _ _ _ _ _ _ _ _ _ _ _ _ _ pre.4 pre.3 pre.1.ticks c.loop-bars.invariant
           c.loop-bars-test.true pre.2),
     )
-
-pub overflow_add-bars : goal.overflow_add-bars
-overflow_add-bars c =
-    omega (arith, c.loop-bars-test.true, c.requires.2)
 
 pub next_bar-w-requires : goal.next_bar-w-requires
 next_bar-w-requires c =
@@ -80,10 +78,6 @@ take_changes-w-requires c =
     let more = rw c.next_bar-w.ensures at c.if-end-w.false in
     rw c.next_bar-w.ensures (walking_ready c.loop-bars.invariant.walking pre.1.track _ pre.1.end_fits more)
 
-pub loop-bars-smaller : goal.loop-bars-smaller
-loop-bars-smaller c =
-    omega (arith, c.loop-bars-test.true)
-
 pub loop-bars-preserved : goal.loop-bars-preserved
 loop-bars-preserved c =
     let pre = c.requires in
@@ -117,4 +111,6 @@ shape_of-leftovers c =
 pub returns : goal.returns
 returns c =
     let pre = c.requires in
-    onward_end _ _ _ _ _ _ _ _ _ _ _ _ _ pre.4 pre.3 pre.1.ticks c.loop-bars.invariant c.loop-bars-test.false
+    let last : c.loop-bars.bars ≡ c.args.max_bars = omega arith in
+    subst (StaffPut _ _ _ _ _ _ _ _ _ _ _ _) (ap (λ (b : ℕ). engraving b c.loop-bars.items c.loop-bars.nexts) last)
+    (onward_end _ _ _ _ _ _ _ _ _ _ _ _ _ pre.4 pre.3 pre.1.ticks c.loop-bars.invariant (omega arith))
