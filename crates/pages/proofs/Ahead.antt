@@ -1,6 +1,5 @@
 -- The lines ahead of a spot, line by line: counts without a line, the part's line, an item, a bar, the end.
 use Prim.Native.Nat.{ℕ, suc, ◌+◌, ◌-◌, ◌*◌, ◌/◌, ◌%◌, ◌≤◌, ◌<◌}
-use mathlib.Core.Bool.{true, false, false≢true}
 use mathlib.Core.List.{List, [], ◌∷◌, ◌++◌}
 use mathlib.Core.Path.{◌≡◌, refl, ap, sym, subst, ◌∙◌}
 use native.Mathlib.Omega.{arith}
@@ -9,7 +8,8 @@ use lib.ListN.{get_or}
 use Rattle.item_lines.specs.Items.{item_line}
 use Rattle.bar_lines.specs.Lines.{bar_line, part_line}
 use Rattle.pages.specs.Page.{Line}
-use Rattle.pages.specs.Spots.{Sheet, items_at, bar_at, counts_at, items_from, nothing, ahead, Fits, PutsLine}
+use Rattle.std.specs.Prelude.{Some, None}
+use Rattle.pages.specs.Spots.{Sheet, items_at, bar_at, counts_at, items_from, ahead, Fits, LinePut, PutsLine}
 use Rattle.pages.specs.Steps.{titled_of, item_put, in_voice, Steps, Passed, DueAt}
 use Rattle.pages.specs.declared.Spot.{Spot}
 use Rattle.pages.specs.declared.Put.{Put}
@@ -67,7 +67,7 @@ module _ {cs : List ℕ} {c end k : ℕ} (h : Passed cs c end k) where
 -- ---- a line
 
 module _ (s : Sheet) (t : Spot) where
-  title_ahead : t.titled ≡ false → ahead s t ≡ part_line t.part t.bars ∷ ahead s (titled_of t)
+  title_ahead : {k : ℕ} → t.title ≡ Some k → ahead s t ≡ part_line k t.bars ∷ ahead s (titled_of t)
   title_ahead h = rw h
 
   title_fits : Fits s t → Fits s (titled_of t)
@@ -94,7 +94,7 @@ module _ (s : Sheet) (t : Spot) where
         keys = omega arith;
       }
 
-  module _ (titled : t.titled ≡ true) where
+  module _ (titled : t.title ≡ None) where
     item_ahead : 0 < t.left → ahead s t ≡ item_line_at s t.voice t.item ∷ ahead s (item_put t)
     item_ahead h =
         let n : t.item + t.left ≡ t.item + 1 + (t.left - 1) = omega arith in
@@ -133,22 +133,20 @@ module _ (s : Sheet) (t : Spot) where
 -- ---- a line that was put is the first ahead
 
 puts_line : {s : Sheet} {t u : Spot} {line : Line} {at : ℕ} {o q : List ℕ} {r : Put}
-    → ahead s t ≡ line ∷ ahead s u → Fits s u → Steps line u at o r q → PutsLine s t at o r q
+    → ahead s t ≡ line ∷ ahead s u → Fits s u → Steps line u at o r q → LinePut s t at o r q
 puts_line {s} {t} {u} {line} e f h =
     record {
       line = line;
-      ended = λ n. absurd (false≢true (sym h.went ∙ n));
-      stays = λ n. absurd (false≢true (sym h.went ∙ n));
-      went = λ n. e ∙ ap (λ (v : Spot). line ∷ ahead s v) (sym h.spot);
-      adds = λ n. h.adds;
-      fits = λ n. subst (λ (v : Spot). Fits s v) (sym h.spot) f;
+      went = e ∙ ap (λ (v : Spot). line ∷ ahead s v) (sym h.spot);
+      adds = h.adds;
+      fits = subst (λ (v : Spot). Fits s v) (sym h.spot) f;
     }
 
 module _ {s : Sheet} {t : Spot} (f : Fits s t) {at : ℕ} {o q : List ℕ} {r : Put} where
-  pub puts_title : t.titled ≡ false → Steps (part_line t.part t.bars) (titled_of t) at o r q → PutsLine s t at o r q
+  pub puts_title : {k : ℕ} → t.title ≡ Some k → Steps (part_line k t.bars) (titled_of t) at o r q → LinePut s t at o r q
   puts_title h w = puts_line (title_ahead s t h) (title_fits s t f) w
 
-  pub puts_item : t.titled ≡ true → 0 < t.left → Steps (item_line_at s t.voice t.item) (item_put t) at o r q → PutsLine s t at o r q
+  pub puts_item : t.title ≡ None → 0 < t.left → Steps (item_line_at s t.voice t.item) (item_put t) at o r q → LinePut s t at o r q
   puts_item titled h w = puts_line (item_ahead s t titled h) (item_fits s t h f) w
 
 module _ {s : Sheet} {t here : Spot} {c : ℕ} (d : DueAt s t c) (e : here ≡ in_voice t c (get_or s.counts c 0)) where
@@ -165,44 +163,17 @@ module _ {s : Sheet} {t here : Spot} {c : ℕ} (d : DueAt s t c) (e : here ≡ i
 
   module _ {at : ℕ} {o q : List ℕ} {r : Put} where
     pub puts_bar : c % 4 ≡ 0
-        → Steps (bar_line here.p (c / 4 + 1) (get_or s.starts (c / 4) 0) (get_or s.marks (c / 4) 0)) here at o r q → PutsLine s t at o r q
+        → Steps (bar_line here.p (c / 4 + 1) (get_or s.starts (c / 4) 0) (get_or s.marks (c / 4) 0)) here at o r q → LinePut s t at o r q
     puts_bar h w =
         let p : here.p ≡ t.p = ap (λ (v : Spot). v.p) e in
         puts_line (here_ahead ∙ rw (eq-eqb _ _ h, p)) here_fits w
 
-    pub puts_first : (c % 4 ≡ 0 → ⊥) → Steps (item_line_at s here.voice here.item) (item_put here) at o r q → PutsLine s t at o r q
+    pub puts_first : (c % 4 ≡ 0 → ⊥) → Steps (item_line_at s here.voice here.item) (item_put here) at o r q → LinePut s t at o r q
     puts_first h w =
-        let titled : here.titled ≡ true = ap (λ (v : Spot). v.titled) e ∙ d.titled in
+        let titled : here.title ≡ None = ap (λ (v : Spot). v.title) e ∙ d.titled in
         puts_line (here_ahead ∙ rw (ne_eqb _ _ h) (item_ahead s here titled (some_left h))) (item_fits s here (some_left h) here_fits) w
 
 -- no line is left
-pub puts_none : {s : Sheet} {t : Spot} {c at : ℕ} {o : List ℕ} → t.titled ≡ true → t.left ≡ 0
-    → c ≡ 4 * t.bars → Passed s.counts t.next (4 * t.bars) c → PutsLine s t at o (record { ended = true; at = at; spot = t }) o
-puts_none {s} {t} titled none e d =
-    record {
-      line = [];
-      ended = λ n. end_ahead s t titled none e d;
-      stays = λ n. (refl, refl, refl);
-      went = λ n. absurd (false≢true (sym n));
-      adds = λ n. absurd (false≢true (sym n));
-      fits = λ n. absurd (false≢true (sym n));
-    }
-
--- ---- a spot with nothing ahead
-
-pub nothing_ahead : (s : Sheet) → ahead s nothing ≡ []
-unfolding items_at counts_at
-nothing_ahead s = refl
-
-pub nothing_fits : (s : Sheet) → Fits s nothing
-unfolding items_from
-nothing_fits s =
-    record {
-      small = omega arith;
-      next = omega arith;
-      counts = omega arith;
-      starts = omega arith;
-      marks = omega arith;
-      heads = omega arith;
-      keys = omega arith;
-    }
+pub puts_none : (s : Sheet) (t : Spot) {c : ℕ} (at : ℕ) (o : List ℕ) → t.title ≡ None → t.left ≡ 0
+    → c ≡ 4 * t.bars → Passed s.counts t.next (4 * t.bars) c → PutsLine s t at o None o
+puts_none s t at o titled none e d = (end_ahead s t titled none e d, refl)

@@ -1,5 +1,5 @@
 -- A spot of a part's page: the lines ahead of it, read from the arrays that the calls write.
-use Rattle.std.specs.Prelude.{ℕ, zero, suc, ◌+◌, ◌-◌, ◌*◌, ◌/◌, ◌%◌, ◌≤◌, true, false, cond, ◌≡◌, eqb, length, get_or, take}
+use Rattle.std.specs.Prelude.{ℕ, zero, suc, ◌+◌, ◌-◌, ◌*◌, ◌/◌, ◌%◌, ◌≤◌, cond, ◌≡◌, eqb, length, get_or, take, Option, Some, None}
 use mathlib.Core.List.{List, [], ◌∷◌, ◌++◌, flatten}
 use Rattle.line_text.specs.Text.{Adds}
 use Rattle.item_lines.specs.Items.{item_line}
@@ -7,6 +7,7 @@ use Rattle.bar_lines.specs.Lines.{bar_line, part_line}
 use Rattle.pages.specs.Page.{Line}
 use Rattle.pages.specs.declared.Spot.{Spot}
 use Rattle.pages.specs.declared.Put.{Put}
+use Rattle.pages.specs.declared.Lines.{Lines}
 
 -- the arrays: a staff's three, and the bars' two
 pub record Sheet : Type 0 where
@@ -42,17 +43,23 @@ items_from s (suc n) c = get_or s.counts c 0 + items_from s n (c + 1)
 
 -- the spot at a part's front
 abbrev pub begun : ℕ → ℕ → ℕ → Spot
-begun k p bars = record { part = k; p = p; bars = bars; titled = false; next = 0; voice = 0; left = 0; item = 0 }
+begun k p bars = record { title = Some k; p = p; bars = bars; next = 0; voice = 0; left = 0; item = 0 }
 
--- a spot with nothing ahead
-abbrev pub nothing : Spot
-nothing = record { part = 0; p = 0; bars = 0; titled = true; next = 0; voice = 0; left = 0; item = 0 }
+-- a part's line, where it is not put yet
+abbrev pub title_lines : Option ℕ → ℕ → List Line
+title_lines None bars = []
+title_lines (Some k) bars = part_line k bars ∷ []
 
 -- The lines ahead of a spot: the part's line where it is not put yet, the items left of a voice, and the counts behind it.
 abbrev pub ahead : Sheet → Spot → List Line
 ahead s t =
-    cond t.titled [] (part_line t.part t.bars ∷ [])
+    title_lines t.title t.bars
     ++ (items_at s t.voice t.left t.item ++ counts_at s t.p (4 * t.bars - t.next) t.next (t.item + t.left))
+
+-- those of what is left, where anything is
+abbrev pub ahead_on : Sheet → Option Spot → List Line
+ahead_on s None = []
+ahead_on s (Some t) = ahead s t
 
 -- the arrays hold all that is ahead
 pub record Fits (s : Sheet) (t : Spot) : Type 0 where
@@ -64,21 +71,23 @@ pub record Fits (s : Sheet) (t : Spot) : Type 0 where
   pub heads : t.item + t.left + items_from s (4 * t.bars - t.next) t.next ≤ length s.heads
   pub keys : 2 * (t.item + t.left + items_from s (4 * t.bars - t.next) t.next) ≤ length s.keys
 
--- The first line ahead was put behind the first bytes of a page; or none was ahead, and spot, place and page are as they were.
-pub record PutsLine (s : Sheet) (t : Spot) (at : ℕ) (out₀ : List ℕ) (r : Put) (out₁ : List ℕ) : Type 0 where
+-- The first line ahead was put behind the first bytes of a page.
+pub record LinePut (s : Sheet) (t : Spot) (at : ℕ) (out₀ : List ℕ) (r : Put) (out₁ : List ℕ) : Type 0 where
   pub line : Line
-  pub ended : r.ended ≡ true → ahead s t ≡ []
-  pub stays : r.ended ≡ true → (r.spot ≡ t) × (r.at ≡ at) × (out₁ ≡ out₀)
-  pub went : r.ended ≡ false → ahead s t ≡ line ∷ ahead s r.spot
-  pub adds : r.ended ≡ false → Adds 4096 line at out₀ r.at out₁
-  pub fits : r.ended ≡ false → Fits s r.spot
+  pub went : ahead s t ≡ line ∷ ahead s r.spot
+  pub adds : Adds 4096 line at out₀ r.at out₁
+  pub fits : Fits s r.spot
+
+-- So it was; or none was ahead, and the page is as it was.
+abbrev pub PutsLine : Sheet → Spot → ℕ → List ℕ → Option Put → List ℕ → Type 0
+PutsLine s t at out₀ None out₁ = (ahead s t ≡ []) × (out₁ ≡ out₀)
+PutsLine s t at out₀ (Some r) out₁ = LinePut s t at out₀ r out₁
 
 -- Some lines ahead were put at the front of a page, one or more of them unless none was ahead.
-pub record PutsLines (s : Sheet) (t : Spot) (r : Put) (out₁ : List ℕ) : Type 0 where
+pub record PutsLines (s : Sheet) (t : Spot) (r : Lines) (out₁ : List ℕ) : Type 0 where
   pub lines : List Line
-  pub ahead_of : ahead s t ≡ lines ++ ahead s r.spot
+  pub ahead_of : ahead s t ≡ lines ++ ahead_on s r.rest
   pub page : take r.at out₁ ≡ flatten lines
   pub within : r.at ≤ length out₁
-  pub fits : Fits s r.spot
-  pub ended : r.ended ≡ true → ahead s r.spot ≡ []
-  pub some : r.ended ≡ false → lines ≡ [] → ⊥
+  pub fits : (here : Spot) → r.rest ≡ Some here → Fits s here
+  pub some : (here : Spot) → r.rest ≡ Some here → lines ≡ [] → ⊥

@@ -4,29 +4,34 @@
 ghost use Rattle.std.specs.Prelude.{◌+◌, ◌*◌, ◌≤◌, ◌<◌, ◌≡◌, length, get_or};
 ghost use Rattle.item_lines.specs.Items.{item_line};
 ghost use Rattle.bar_lines.specs.Lines.{bar_line, part_line};
-ghost use Rattle.pages.specs.Spots.{sheet, begun, nothing, Fits, PutsLine, PutsLines};
+ghost use Rattle.pages.specs.Spots.{sheet, begun, Fits, LinePut, PutsLine, PutsLines};
 ghost use Rattle.pages.specs.Steps.{titled_of, item_put, in_voice, Steps, Due, DueAt};
 
-// Where a part's page stands: the part and its bars, whether its own line is put, the next count, and the voice whose items are put, with how
+// Where a part's page stands: the part, until its own line is put, and its bars, the next count, and the voice whose items are put, with how
 // many of them are left and which is the next.
-#[derive(Clone, Copy)]
+#[derive(Clone, Copy, Debug, PartialEq, Eq)]
 pub struct Spot {
-    pub part: u32,
+    pub title: Option<u32>,
     pub p: u64,
     pub bars: usize,
-    pub titled: bool,
     pub next: usize,
     pub voice: u64,
     pub left: u32,
     pub item: usize,
 }
 
-// What was put: whether nothing was left to put, where the bytes end, and the spot behind it.
-#[derive(Clone, Copy)]
+// A line that was put: where the bytes end, and the spot behind it.
+#[derive(Clone, Copy, Debug, PartialEq, Eq)]
 pub struct Put {
-    pub ended: bool,
     pub at: usize,
     pub spot: Spot,
+}
+
+// Lines that were put: where the bytes end, and the spot behind them, unless nothing is left to put.
+#[derive(Clone, Copy, Debug, PartialEq, Eq)]
+pub struct Lines {
+    pub at: usize,
+    pub rest: Option<Spot>,
 }
 
 // The spot at a part's front.
@@ -34,26 +39,9 @@ pub fn begin(part: u32, p: u64, bars: usize) -> Spot
     ensures { result ≡ begun part p bars }
 {
     Spot {
-        part,
+        title: Some(part),
         p,
         bars,
-        titled: false,
-        next: 0,
-        voice: 0,
-        left: 0,
-        item: 0,
-    }
-}
-
-// A spot with nothing ahead.
-pub fn nowhere() -> Spot
-    ensures { result ≡ nothing }
-{
-    Spot {
-        part: 0,
-        p: 0,
-        bars: 0,
-        titled: true,
         next: 0,
         voice: 0,
         left: 0,
@@ -62,25 +50,17 @@ pub fn nowhere() -> Spot
 }
 
 // The part's line.
-fn put_title(spot: Spot, out: &mut [u8], at: usize) -> Put
+fn put_title(spot: Spot, part: u32, out: &mut [u8], at: usize) -> Put
     requires { at + 4096 ≤ length out.old }
-    ensures { Steps (part_line spot.part spot.bars) (titled_of spot) at out.old result out.new }
+    ensures { Steps (part_line part spot.bars) (titled_of spot) at out.old result out.new }
 {
-    let end = bar_lines::put_part(out, at, spot.part as u64, spot.bars as u64);
-    let behind = Spot {
-        part: spot.part,
-        p: spot.p,
-        bars: spot.bars,
-        titled: true,
-        next: spot.next,
-        voice: spot.voice,
-        left: spot.left,
-        item: spot.item,
-    };
+    let end = bar_lines::put_part(out, at, part as u64, spot.bars as u64);
     Put {
-        ended: false,
         at: end,
-        spot: behind,
+        spot: Spot {
+            title: None,
+            ..spot
+        },
     }
 }
 
@@ -102,20 +82,13 @@ fn put_next_item(spot: Spot, heads: &[u32], keys: &[u64], out: &mut [u8], at: us
         keys[2 * item],
         keys[2 * item + 1],
     );
-    let behind = Spot {
-        part: spot.part,
-        p: spot.p,
-        bars: spot.bars,
-        titled: spot.titled,
-        next: spot.next,
-        voice: spot.voice,
-        left: spot.left - 1,
-        item: item + 1,
-    };
     Put {
-        ended: false,
         at: end,
-        spot: behind,
+        spot: Spot {
+            left: spot.left - 1,
+            item: item + 1,
+            ..spot
+        },
     }
 }
 
@@ -127,11 +100,7 @@ fn put_bar_at(spot: Spot, b: usize, starts: &[u64], marks: &[u64], out: &mut [u8
 {
     let number = (b + 1) as u64;
     let end = bar_lines::put_bar(out, at, spot.p, number, starts[b], marks[b]);
-    Put {
-        ended: false,
-        at: end,
-        spot,
-    }
+    Put { at: end, spot }
 }
 
 // The spot in the voice of count `c`.
@@ -140,14 +109,10 @@ fn enter(spot: Spot, counts: &[u32], c: usize) -> Spot
     ensures { result ≡ in_voice spot c (get_or counts.now c 0) }
 {
     Spot {
-        part: spot.part,
-        p: spot.p,
-        bars: spot.bars,
-        titled: spot.titled,
         next: c + 1,
         voice: (c % 4) as u64,
         left: counts[c],
-        item: spot.item,
+        ..spot
     }
 }
 
@@ -156,17 +121,15 @@ fn due(counts: &[u32], c: usize, end: usize) -> usize
     requires { (c ≤ end) × (end ≤ length counts.now) }
     ensures { Due counts.now c end result }
 {
-    let mut k = c;
-    while k < end {
+    for k in c..end {
         if k % 4 == 0 {
             return k;
         }
         if counts[k] != 0 {
             return k;
         }
-        k += 1;
     }
-    k
+    end
 }
 
 // The first line at count `c`, which is due: its bar's, or its first item's.
@@ -182,7 +145,7 @@ fn put_count(
     at: usize,
 ) -> Put
     requires { DueAt (sheet counts.now heads.now keys.now starts.now marks.now) spot c × (at + 4096 ≤ length out.old) }
-    ensures { PutsLine
+    ensures { LinePut
         (sheet counts.now heads.now keys.now starts.now marks.now)
         spot at out.old result out.new }
 {
@@ -203,28 +166,24 @@ pub fn next_line(
     marks: &[u64],
     out: &mut [u8],
     at: usize,
-) -> Put
+) -> Option<Put>
     requires { Fits (sheet counts.now heads.now keys.now starts.now marks.now) spot × (at + 4096 ≤ length out.old) }
     ensures { PutsLine
         (sheet counts.now heads.now keys.now starts.now marks.now)
         spot at out.old result out.new }
 {
-    if !spot.titled {
-        return put_title(spot, out, at);
+    if let Some(part) = spot.title {
+        return Some(put_title(spot, part, out, at));
     }
     if spot.left != 0 {
-        return put_next_item(spot, heads, keys, out, at);
+        return Some(put_next_item(spot, heads, keys, out, at));
     }
     let end = 4 * spot.bars;
     let c = due(counts, spot.next, end);
     if c == end {
-        return Put {
-            ended: true,
-            at,
-            spot,
-        };
+        return None;
     }
-    put_count(spot, c, counts, heads, keys, starts, marks, out, at)
+    Some(put_count(spot, c, counts, heads, keys, starts, marks, out, at))
 }
 
 // Lines of a part's page from the front of `out`, while there are any and 4,096 bytes are left.
@@ -236,22 +195,24 @@ pub fn next_lines(
     starts: &[u64],
     marks: &[u64],
     out: &mut [u8],
-) -> Put
+) -> Lines
     requires { Fits (sheet counts.now heads.now keys.now starts.now marks.now) spot × (4096 ≤ length out.old) }
     ensures { PutsLines
         (sheet counts.now heads.now keys.now starts.now marks.now)
         spot result out.new }
 {
-    let mut put = Put {
-        ended: false,
-        at: 0,
-        spot,
-    };
-    while 4096 <= out.len() - put.at {
-        put = next_line(put.spot, counts, heads, keys, starts, marks, out, put.at);
-        if put.ended {
-            return put;
-        }
+    let mut at = 0;
+    let mut here = spot;
+    // Kept: a line's length is found on the way, so no range says which places there are.
+    while 4096 <= out.len() - at {
+        let Some(put) = next_line(here, counts, heads, keys, starts, marks, out, at) else {
+            return Lines { at, rest: None };
+        };
+        at = put.at;
+        here = put.spot;
     }
-    put
+    Lines {
+        at,
+        rest: Some(here),
+    }
 }

@@ -1,3 +1,4 @@
+use mathlib.Core.Path.{◌≡◌}
 use native.Mathlib.Omega.{arith}
 use Rattle.pages.proofs.Ahead.{passed_none, passed_more}
 use Rattle.pages.proofs.due.Goals as goal
@@ -17,4 +18,6 @@ loop-k-preserved c =
     passed_more c.loop-k.invariant (omega arith) c.if-k-eq0.false (omega arith)
 
 pub returns : goal.returns
-returns c = record { passed = c.loop-k.invariant; found = λ l no_bar. absurd (omega arith) }
+returns c =
+    let e : c.loop-k.k ≡ c.args.end = omega arith in
+    record { passed = rw e at c.loop-k.invariant; found = λ l no_bar. absurd (omega arith) }

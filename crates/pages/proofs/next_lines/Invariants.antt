@@ -5,7 +5,7 @@ use Rattle.pages.proofs.Runs.{Run}
 use Rattle.pages.proofs.next_lines.Given as goal
 
 abbrev pub invariant-loop-out : goal.invariant-loop-out
-invariant-loop-out l = Run (sheet l.counts l.heads l.keys l.starts l.marks) l.initial.put.spot (length l.initial.out) l.put l.out
+invariant-loop-out l = Run (sheet l.counts l.heads l.keys l.starts l.marks) l.fn.spot (length l.initial.out) l.at l.here l.out
 
 abbrev pub decreases-loop-out : goal.decreases-loop-out
-decreases-loop-out l = length (ahead (sheet l.counts l.heads l.keys l.starts l.marks) l.put.spot)
+decreases-loop-out l = length (ahead (sheet l.counts l.heads l.keys l.starts l.marks) l.here)
