@@ -23,7 +23,7 @@ first_is {ds = ds} {ws = ws} first opened = first ds ws (notes_admitted _ opened
 pub returns-in_err-open_notes : goal.returns-in_err-open_notes
 returns-in_err-open_notes c =
     let p = err_from_is_err_and c.from_residual.result c.from_residual.ensures.1 in
-    rw (p.1, p.2) (record { answered = sym (refuses_last (note_refusals _) _ c.in_err-open_notes.ensures.number _); absent = tt })
+    rw (p.1, p.2) (record { answered = sym (refuses_last (note_refusals _) _ c.in_err-open_notes.ensures.number _) })
 
 pub cut-first_deltas-requires : goal.cut-first_deltas-requires
 cut-first_deltas-requires c = cut_deltas (first_is c.first_track-track.ensures c.in_ok-open_notes.ensures)
@@ -40,7 +40,4 @@ pub returns : goal.returns
 returns c =
     let span = first_is c.first_track-track.ensures c.in_ok-open_notes.ensures in
     let is = rw (c.cut-first_deltas.ensures, c.cut-first_words.ensures, span.events) at c.read_head.ensures in
-    record {
-      answered = ap given (head_given _ _ is) ∙ sym (passes_given _ _ (notes_pass _ c.in_ok-open_notes.ensures));
-      absent = λ z. (is.fifths z, is.minor z);
-    }
+    record { answered = ap given (head_given _ _ is) ∙ sym (passes_given _ _ (notes_pass _ c.in_ok-open_notes.ensures)) }
