@@ -10,6 +10,7 @@ ghost use Rattle.bar_walk.specs.Steps.{meter_in, meter_before, new_walker, is_ch
 ghost use Rattle.bar_walk.specs.Walk.{first_walker, Ready, Skipped, Settled, CanWalk, Room, BarsAre};
 
 use bar_marks::Mark;
+use track_events::{Kind, is_kind};
 
 // The walk along the bars. It stands at the start of a bar; the first `at` events are taken.
 #[derive(Clone, Copy)]
@@ -23,6 +24,7 @@ pub struct Walker {
     pub was_upper: u32,
     pub was_lower: u32,
     // the bar's start, and what is marked on it: tempo and fifths + 8, 0 where there is none, and minor
+    // Kept: no `Option`, since a mark packs these numbers as they are, and the walk's theorems compare them with the mark's.
     pub start: u64,
     pub tempo: u32,
     pub fifths: u32,
@@ -72,8 +74,7 @@ impl Walker {
         requires { byte_b word < 32 }
         ensures { result ≡ took_meter self word }
     {
-        let x = track_events::take_apart(word);
-        self.upper = x.a;
+        self.upper = track_events::byte_a(word);
         self.lower = changes::lower_of(word);
         self
     }
@@ -96,37 +97,32 @@ impl Walker {
     {
         self.tick += delta as u64;
         self.at += 1;
-        let k = track_events::kind_of(word);
-        match k {
-            2 => self.take_tempo(word),
-            3 => self.take_meter(word),
-            4 => self.take_key(word),
+        let Some(kind) = track_events::kind_of(word) else {
+            return self;
+        };
+        match kind {
+            Kind::Tempo => self.take_tempo(word),
+            Kind::Meter => self.take_meter(word),
+            Kind::Key => self.take_key(word),
             _ => self,
         }
     }
 
     // Skips the events at or before the bar's start that change nothing.
-    fn skip_to_change(mut self, deltas: &[u32], words: &[u32]) -> Self
+    fn skip_to_change(self, deltas: &[u32], words: &[u32]) -> Self
         requires { Ready deltas.now words.now self }
         ensures { Skipped deltas.now words.now self result }
     {
-        let start = self.start;
-        let mut at = self.at;
         let mut tick = self.tick;
-        while at < deltas.len() {
+        for at in self.at..deltas.len() {
             let next = tick + deltas[at] as u64;
-            if start < next {
-                break;
-            }
-            if is_change(words[at]) {
-                break;
+            if self.start < next || is_change(words[at]) {
+                return Self { at, tick, ..self };
             }
             tick = next;
-            at += 1;
         }
-        self.at = at;
-        self.tick = tick;
-        self
+        let at = deltas.len();
+        Self { at, tick, ..self }
     }
 
     // Takes every change at or before the bar's start.
@@ -135,6 +131,7 @@ impl Walker {
         ensures { Settled deltas.now words.now self result }
     {
         let mut w = self;
+        // Kept: the walker goes on by one event or by many, so no range says where.
         while w.at < deltas.len() {
             let at = w.at;
             let delta = deltas[at];
@@ -169,17 +166,13 @@ impl Walker {
     {
         let length = self.length();
         Self {
-            p: self.p,
-            upper: self.upper,
-            lower: self.lower,
             was_upper: self.upper,
             was_lower: self.lower,
             start: self.start + length,
             tempo: 0,
             fifths: 0,
             minor: false,
-            at: self.at,
-            tick: self.tick,
+            ..self
         }
     }
 
@@ -187,10 +180,7 @@ impl Walker {
     pub fn printed(self) -> bool
         ensures { result ≡ not (same_meter (meter_before self) (meter_in self)) }
     {
-        if self.was_upper != self.upper {
-            return true;
-        }
-        self.was_lower != self.lower
+        self.was_upper != self.upper || self.was_lower != self.lower
     }
 
     // The bar's mark.
@@ -212,11 +202,7 @@ impl Walker {
 fn is_change(word: u32) -> bool
     ensures { result ≡ is_change word }
 {
-    let k = track_events::kind_of(word);
-    if k < 2 {
-        return false;
-    }
-    k <= 4
+    is_kind(word, Kind::Tempo) || is_kind(word, Kind::Meter) || is_kind(word, Kind::Key)
 }
 
 // A key's fifths + 8, 1 to 15.
@@ -241,16 +227,14 @@ pub fn count_bars(p: u64, deltas: &[u32], words: &[u32], end: u64, max_bars: usi
     ensures { result ≡ length (bars_in max_bars p (events_of deltas.now words.now) end) }
 {
     let mut walker = first_bar(p, deltas, words);
-    let mut count = 0;
-    while count < max_bars {
-        count += 1;
+    for before in 0..max_bars {
         walker = walker.next_bar();
         if end <= walker.start {
-            return count;
+            return before + 1;
         }
         walker = walker.take_changes(deltas, words);
     }
-    count
+    max_bars
 }
 
 // The bars up to the end tick, max_bars of them at most: their starts and marks, and how many they are.
@@ -270,16 +254,14 @@ pub fn midi_bars(
         starts.old marks.old result starts.new marks.new }
 {
     let mut w = first_bar(p, deltas, words);
-    let mut n = 0;
-    while n < max_bars {
+    for n in 0..max_bars {
         starts[n] = w.start;
         marks[n] = w.mark();
-        n += 1;
         w = w.next_bar();
         if end <= w.start {
-            return n;
+            return n + 1;
         }
         w = w.take_changes(deltas, words);
     }
-    n
+    max_bars
 }

@@ -77,3 +77,7 @@ kinds_agree k h g e = (
   λ q. e ∙ sym (some_kind k g (sym q ∙ kind_some k h e)),
   λ q. kind_some k h e ∙ sym (kind_some k g (sym q ∙ e)),
 )
+
+-- a word of kind j is not of another kind
+pub other_kind : (n : ℕ) {o : Option Kind} {j : Kind} → IsKind n o → o ≡ Some j → (k : Kind) → (j ≡ k → ⊥) → eqb n (kind_number k) ≡ false
+other_kind n {j = j} h e k not = ne_eqb n (kind_number k) (λ q. not (same_kind j k (sym (kind_some j h e) ∙ q)))

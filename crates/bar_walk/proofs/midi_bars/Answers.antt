@@ -1,3 +1,4 @@
+use mathlib.Core.Path.{◌≡◌}
 use native.Mathlib.Omega.{arith}
 use lib.ListN.{length-set}
 use Rattle.bar_walk.proofs.WalkLaws.{walking_start, walking_sane, walking_ready, walking_on}
@@ -63,4 +64,6 @@ pub shape_of-marks : goal.shape_of-marks
 shape_of-marks c = c.loop-n.invariant.1.second.kept
 
 pub returns : goal.returns
-returns c = out_end c.loop-n.invariant.0.bar c.loop-n.invariant.1 c.loop-n-test.false
+returns c =
+    let all : c.loop-n.n ≡ c.args.max_bars = omega arith in
+    rw all at (out_end c.loop-n.invariant.0.bar c.loop-n.invariant.1 c.loop-n-test.false)

@@ -1,5 +1,4 @@
 -- `midi_bars` writes the bars. The loop's invariant: `n` bars are written to both outputs, and those ahead of the walker are to come.
-use Prim.Native.Nat.{◌-◌}
 use Rattle.rules.specs.Bars.{bars_in}
 use Rattle.track_events.specs.Track.{events_of}
 use Rattle.bar_walk.proofs.WalkLaws.{Walking}
@@ -9,6 +8,3 @@ use Rattle.bar_walk.proofs.midi_bars.Given as goal
 abbrev pub invariant-loop-n : goal.invariant-loop-n
 invariant-loop-n l = Walking l.deltas l.words l.p l.w
     × Out l.deltas l.words l.end l.max_bars l.n (bars_in l.max_bars l.p (events_of l.deltas l.words) l.end) l.initial.starts l.initial.marks l.starts l.marks l.w
-
-abbrev pub decreases-loop-n : goal.decreases-loop-n
-decreases-loop-n l = l.max_bars - l.n

@@ -2,4 +2,4 @@
 use Rattle.bar_walk.proofs.Walker.take_meter.Goals as goal
 
 pub returns : goal.returns
-returns c = rw (c.take_apart-x.ensures.a, c.lower_of.ensures)
+returns c = rw (c.byte_a.ensures, c.lower_of.ensures)

@@ -1,14 +1,12 @@
 -- `take` goes by the word's kind, as the step does: each arm rewrites the step by its kind.
-use mathlib.Core.Path.{◌≡◌, sym, ap, ◌∙◌}
+use mathlib.Core.Path.{ap, ◌∙◌}
 use native.Mathlib.Omega.{arith}
 use borrow.Author.Tests.{ne_eqb}
 use Rattle.std.specs.Prelude.{Some}
 use Rattle.rules.specs.Piece.{kind_of}
-use Rattle.track_events.specs.declared.Kind.{Kind}
 use Rattle.track_events.specs.declared.Kind.TheVariants.{Tempo, Meter, Key}
-use Rattle.track_events.specs.Kinds.{kind_number}
 use Rattle.track_events.proofs.Tracks.{meter_bounds}
-use Rattle.track_events.proofs.KindNumbers.{kind_some, kind_none, same_kind}
+use Rattle.track_events.proofs.KindNumbers.{kind_some, kind_none, other_kind}
 use Rattle.changes.specs.Reads.{took}
 use Rattle.changes.proofs.Reading.take.Goals as goal
 
@@ -37,9 +35,9 @@ returns-in-Key c =
 pub returns-in_default-kind : goal.returns-in_default-kind
 unfolding took
 returns-in_default-kind c =
-    let n = kind_some _ c.kind_of.ensures c.in-Some.is in
-    let not = λ (k : Kind) (h : c.in-Some.kind ≡ k → ⊥). ne_eqb (kind_of c.args.word) (kind_number k) (λ e. h (same_kind _ k (sym n ∙ e))) in
-    rw (not Tempo c.in_default-kind.not-Tempo, not Meter c.in_default-kind.not-Meter, not Key c.in_default-kind.not-Key)
+    let other = other_kind (kind_of c.args.word) c.kind_of.ensures c.in-Some.is in
+    let is = c.in_default-kind in
+    rw (other Tempo is.not-Tempo, other Meter is.not-Meter, other Key is.not-Key)
 
 pub returns-in_default : goal.returns-in_default
 unfolding took
