@@ -1,12 +1,12 @@
 // Ticks of a piece and ticks of its automation, section 9: two types, and one conversion.
 #![tactic(auto)]
 
-ghost use Rattle.std.specs.Prelude.{◌+◌, ◌≤◌, ◌<◌, ◌^◌, ◌≡◌, eqb};
+ghost use Rattle.std.specs.Prelude.{◌+◌, ◌≤◌, ◌<◌, ◌^◌, ◌≡◌};
 ghost use Rattle.rules.specs.Piece.{largest_size};
 ghost use Rattle.rules.specs.Automation.{automation_tick};
 
 // A tick of the piece, as its notes have it.
-#[derive(Clone, Copy)]
+#[derive(Clone, Copy, Debug, PartialEq, Eq)]
 pub struct SourceTick(pub u64);
 
 // A tick at 480 per quarter.
@@ -20,12 +20,6 @@ impl SourceTick {
         ensures { result.0 ≡ self.0 + delta }
     {
         SourceTick(self.0 + delta as u64)
-    }
-
-    pub fn same(self, other: SourceTick) -> bool
-        ensures { result ≡ eqb self.0 other.0 }
-    {
-        self.0 == other.0
     }
 
     // The only way from a source tick to an automation tick.

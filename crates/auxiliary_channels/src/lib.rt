@@ -1,15 +1,16 @@
 // Section 9: which channels of a part's track only mirror another, by its markers and its automation.
 #![tactic(auto)]
 
-ghost use Rattle.std.specs.Prelude.{◌<◌, ◌^◌, ◌&&◌, ◌≡◌, ltb, length};
+ghost use Rattle.std.specs.Prelude.{◌<◌, ◌^◌, true, ◌&&◌, ◌≡◌, ltb, length};
 ghost use Rattle.rules.specs.Lists.{keep};
+ghost use Rattle.rules.specs.Piece.{well_formed};
 ghost use Rattle.rules.specs.Automation.{is_automation_of, same_messages, counts?, mirrors};
 ghost use Rattle.track_events.specs.Track.{Track, events_of};
 ghost use Rattle.auxiliary_channels.specs.Markers.{marker, added, taken, pairs_of, is_chained, none_chained, Mirrors, Drops};
 ghost use Rattle.auxiliary_channels.specs.Mirror.{IsPlace, Behind, is_word_of, Next, same_bytes, Comparable, same_at};
 
 use automation_ticks::SourceTick;
-use basics::size;
+use track_events::Kind;
 
 // ---- markers
 
@@ -24,13 +25,7 @@ struct Pairs {
 fn is_pair(base: u32, spare: u32) -> bool
     ensures { result ≡ counts? (marker base spare) }
 {
-    if 15 < base {
-        return false;
-    }
-    if 15 < spare {
-        return false;
-    }
-    base != spare
+    base <= 15 && spare <= 15 && base != spare
 }
 
 impl Pairs {
@@ -55,12 +50,13 @@ impl Pairs {
     fn take_marker(self, word: u32) -> Self
         ensures { result ≡ taken self word }
     {
-        let x = track_events::take_apart(word);
-        if x.kind != 5 {
+        if !track_events::is_kind(word, Kind::Marker) {
             return self;
         }
-        if is_pair(x.a, x.b) {
-            self.add(x.a, size(x.b))
+        let base = track_events::byte_a(word);
+        let spare = track_events::byte_b(word);
+        if is_pair(base, spare) {
+            self.add(base, spare as usize)
         } else {
             self
         }
@@ -75,10 +71,8 @@ fn collect_markers(words: &[u32]) -> Pairs
         bases: [16; 16],
         clash: false,
     };
-    let mut i = 0;
-    while i < words.len() {
-        pairs = pairs.take_marker(words[i]);
-        i += 1;
+    for word in words {
+        pairs = pairs.take_marker(*word);
     }
     pairs
 }
@@ -88,41 +82,38 @@ fn is_chained(bases: [u32; 16], spare: usize) -> bool
     requires { spare < 16 }
     ensures { result ≡ is_chained bases spare }
 {
-    let base = size(bases[spare]);
-    if 16 <= base {
-        return false;
-    }
-    bases[base] < 16
+    let base = bases[spare];
+    base < 16 && bases[base as usize] < 16
 }
 
 // Whether no base is a spare.
 fn none_chained(bases: [u32; 16]) -> bool
     ensures { result ≡ none_chained bases }
 {
-    let mut spare = 0;
-    while spare < 16 {
+    for spare in 0..16 {
         if is_chained(bases, spare) {
             return false;
         }
-        spare += 1;
     }
     true
 }
 
 // ---- two channels compared
 
-// Whether a word is automation, kinds 10 to 14, on a channel.
+// Whether a word is automation on a channel.
 fn is_automation_of(word: u32, channel: u32) -> bool
     ensures { result ≡ is_word_of channel word }
 {
-    let x = track_events::take_apart(word);
-    if x.kind < 10 {
-        return false;
+    match track_events::kind_of(word) {
+        Some(
+            Kind::Bend
+            | Kind::Controller
+            | Kind::Program
+            | Kind::KeyPressure
+            | Kind::ChannelPressure,
+        ) => track_events::byte_a(word) == channel,
+        _ => false,
     }
-    if 14 < x.kind {
-        return false;
-    }
-    x.a == channel
 }
 
 // A place in a track: an event's number, and the tick before it.
@@ -138,11 +129,9 @@ impl Place {
         requires { (self.at < length deltas.now) × (self.tick.0 < 2 ^ 47) }
         ensures { Behind deltas.now self result }
     {
-        let at = self.at;
-        let tick = self.tick;
         Place {
-            at: at + 1,
-            tick: tick.after(deltas[at]),
+            at: self.at + 1,
+            tick: self.tick.after(deltas[self.at]),
         }
     }
 
@@ -151,31 +140,28 @@ impl Place {
         requires { Track deltas.now words.now × IsPlace deltas.now self }
         ensures { Next deltas.now words.now channel self result }
     {
-        let mut x = self;
-        while x.at < words.len() {
-            let at = x.at;
+        let mut tick = self.tick;
+        for at in self.at..words.len() {
             if is_automation_of(words[at], channel) {
-                return x;
+                return Place { at, tick };
             }
-            x = x.behind(deltas);
+            tick = tick.after(deltas[at]);
         }
-        x
+        Place {
+            at: words.len(),
+            tick,
+        }
     }
 }
 
 // Whether two words are the same message, the channel aside.
 fn same_bytes(v: u32, w: u32) -> bool
+    requires { well_formed v ≡ true }
     ensures { result ≡ same_bytes v w }
 {
     let x = track_events::take_apart(v);
     let y = track_events::take_apart(w);
-    if x.kind != y.kind {
-        return false;
-    }
-    if x.b != y.b {
-        return false;
-    }
-    x.c == y.c
+    x.kind == y.kind && x.b == y.b && x.c == y.c
 }
 
 // Whether the events at two places have the same tick and message. There is no event at the end.
@@ -188,13 +174,9 @@ fn same_message(deltas: &[u32], words: &[u32], x: Place, y: Place) -> bool
     if words.len() <= j {
         return false;
     }
-    let d = x.tick;
-    let e = y.tick;
-    if d.after(deltas[i]).same(e.after(deltas[j])) {
-        same_bytes(words[i], words[j])
-    } else {
-        false
-    }
+    let first = x.tick.after(deltas[i]);
+    let second = y.tick.after(deltas[j]);
+    first == second && same_bytes(words[i], words[j])
 }
 
 // Whether the spare's automation has the ticks and messages of the base's, in track order across the kinds.
@@ -210,6 +192,7 @@ fn mirrored_automation(deltas: &[u32], words: &[u32], base: u32, spare: u32) -> 
     };
     let mut x = start.next_of(deltas, words, base);
     let mut y = start.next_of(deltas, words, spare);
+    // Kept: each step goes to the next automation event, and the walk ends at a place found on the way.
     while x.at < words.len() {
         if !same_message(deltas, words, x, y) {
             return false;
@@ -227,11 +210,7 @@ fn is_mirror(deltas: &[u32], words: &[u32], base: u32, spare: u32) -> bool
     requires { Track deltas.now words.now }
     ensures { result ≡ (ltb base 16 && mirrors (events_of deltas.now words.now) (marker base spare)) }
 {
-    if base < 16 {
-        mirrored_automation(deltas, words, base, spare)
-    } else {
-        false
-    }
+    base < 16 && mirrored_automation(deltas, words, base, spare)
 }
 
 // Which channels are spares that mirror their base.
@@ -240,10 +219,8 @@ fn mirrored_channels(deltas: &[u32], words: &[u32], bases: [u32; 16]) -> [bool; 
     ensures { Mirrors (events_of deltas.now words.now) bases result }
 {
     let mut mirrored = [false; 16];
-    let mut spare = 0;
-    while spare < 16 {
+    for spare in 0..16 {
         mirrored[spare] = is_mirror(deltas, words, bases[spare], spare as u32);
-        spare += 1;
     }
     mirrored
 }

@@ -1,7 +1,7 @@
 use mathlib.Core.Path.{refl, sym, ◌∙◌}
 use native.Mathlib.Omega.{arith}
 use Rattle.auxiliary_channels.proofs.MirrorLaws.{place_tick, place_start, place_behind, same_inside}
-use Rattle.auxiliary_channels.proofs.MirrorLaws.{abreast_start, abreast_differ, abreast_more, abreast_end}
+use Rattle.auxiliary_channels.proofs.MirrorLaws.{abreast_differ, abreast_more, abreast_end}
 use Rattle.auxiliary_channels.proofs.mirrored_automation.Goals as goal
 
 pub next_of-x-requires : goal.next_of-x-requires
@@ -9,14 +9,6 @@ next_of-x-requires c = (c.requires, place_start refl refl)
 
 pub next_of-y-requires : goal.next_of-y-requires
 next_of-y-requires c = (c.requires, place_start refl refl)
-
-pub loop-x-init : goal.loop-x-init
-loop-x-init c = abreast_start c.requires refl c.next_of-x.ensures c.next_of-y.ensures
-
-pub same_message-requires : goal.same_message-requires
-same_message-requires c =
-    let inv = c.loop-x.invariant in
-    record { track = c.requires; first = inv.at_base.place; second = inv.at_spare.place; inside = rw (← c.requires.same) c.loop-x-test.true }
 
 pub returns-then-not-same_message : goal.returns-then-not-same_message
 returns-then-not-same_message c =
@@ -44,10 +36,6 @@ next_of-y-requires-in-loop-x c =
     let inside = same_inside c.args.deltas.now c.args.words.now c.loop-x.x c.loop-x.y
     (sym c.same_message.ensures ∙ c.if-not-same_message.false) in
     (track, place_behind track c.loop-x.invariant.at_spare.place inside c.behind-in-loop-x.ensures)
-
-pub loop-x-smaller : goal.loop-x-smaller
-loop-x-smaller c =
-    omega (arith, c.behind.ensures.at, c.next_of-x-in-loop-x.ensures.onward, c.loop-x-test.true, c.requires.same)
 
 pub loop-x-preserved : goal.loop-x-preserved
 loop-x-preserved c =

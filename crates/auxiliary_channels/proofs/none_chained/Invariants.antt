@@ -1,5 +1,4 @@
 -- No spare below the present one is chained.
-use Prim.Native.Nat.{◌≤◌, ◌-◌}
 use mathlib.Core.Bool.{true, not}
 use mathlib.Core.Path.{◌≡◌}
 use Rattle.rules.specs.Lists.{below}
@@ -7,7 +6,4 @@ use Rattle.auxiliary_channels.specs.Markers.{is_chained}
 use Rattle.auxiliary_channels.proofs.none_chained.Given as goal
 
 abbrev pub invariant-loop-spare : goal.invariant-loop-spare
-invariant-loop-spare l = (l.spare ≤ 16) × (below l.spare (λ s. not (is_chained l.bases s)) ≡ true)
-
-abbrev pub decreases-loop-spare : goal.decreases-loop-spare
-decreases-loop-spare l = 16 - l.spare
+invariant-loop-spare l = below l.spare (λ s. not (is_chained l.bases s)) ≡ true
