@@ -1,5 +1,6 @@
 -- The staff of some voices in some bars: its size, the room that it takes, and what writing it comes to.
-use Rattle.std.specs.Prelude.{ℕ, ◌/◌, Bool, cond, ◌&&◌, List, [], ◌∷◌, ◌≡◌, leb, length}
+use Rattle.std.specs.Prelude as std
+use Rattle.std.specs.Prelude.{ℕ, ◌/◌, Bool, ◌&&◌, List, [], ◌∷◌, ◌≡◌, leb, length}
 use Rattle.rules.specs.Lists.{written}
 use Rattle.rules.specs.Bars.{Bar}
 use Rattle.rules.specs.Voices.{Chord}
@@ -8,7 +9,6 @@ use Rattle.rules.specs.Staff.{staff_of, leftovers_of}
 use Rattle.rules.specs.Refusals.{Result, refused, given, unless, answers, writes, short_output}
 use Rattle.rules.specs.Calls.{StaffSize, EngravedLists}
 use Rattle.engraver.specs.declared.Size.{Size}
-use Rattle.engraver.specs.declared.Written.{Written}
 
 abbrev pub size_by : ℕ → List Bar → List (List Chord) → StaffSize
 size_by p bs vs = record { bars = length bs; items = length (items_of (staff_of p vs bs)) }
@@ -46,10 +46,11 @@ pub record Outputs
   pub leftovers : leftovers₁ ≡ written (writes (λ (s : EngravedLists). s.leftovers) o) leftovers₀
 
 -- no room is refused by number 8
-abbrev pub result_of : Written → Result StaffSize
-result_of r = cond r.fits (given (size_of r.size)) (refused 8)
+abbrev pub result_of : std.Option Size → Result StaffSize
+result_of std.None = refused 8
+result_of (std.Some s) = given (size_of s)
 
-abbrev pub StaffWritten : ℕ → List Bar → List (List Chord) → (counts₀ heads₀ keys₀ leftovers₀ counts₁ heads₁ keys₁ leftovers₁ : List ℕ) → Written → Type 0
+abbrev pub StaffWritten : ℕ → List Bar → List (List Chord) → (counts₀ heads₀ keys₀ leftovers₀ counts₁ heads₁ keys₁ leftovers₁ : List ℕ) → std.Option Size → Type 0
 StaffWritten p bs vs counts₀ heads₀ keys₀ leftovers₀ counts₁ heads₁ keys₁ leftovers₁ r =
     Outputs (size_by p bs vs) (outcome (lists_by p bs vs) (length counts₀) (length heads₀) (length keys₀) (length leftovers₀))
     counts₀ heads₀ keys₀ leftovers₀ counts₁ heads₁ keys₁ leftovers₁ (result_of r)

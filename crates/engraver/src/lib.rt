@@ -14,13 +14,6 @@ pub struct Size {
     pub items: usize,
 }
 
-// A staff that is written, or that found no room in the outputs: its size.
-#[derive(Clone, Copy)]
-pub struct Written {
-    pub fits: bool,
-    pub size: Size,
-}
-
 // The size of the staff of the voices in the work area, in at most max_bars bars.
 pub fn measure_staff(
     p: u64,
@@ -78,7 +71,7 @@ fn has_room(size: Size, counts: usize, heads: usize, keys: usize, leftovers: usi
     size.bars <= leftovers / 4
 }
 
-// The staff of the voices in the work area, where the outputs have room for it; else they are left as they are.
+// The staff of the voices in the work area, and its size; none where the outputs have no room for it, and they are left as they are.
 pub fn write_staff(
     p: u64,
     deltas: &[u32],
@@ -92,7 +85,7 @@ pub fn write_staff(
     heads: &mut [u32],
     keys: &mut [u64],
     leftovers: &mut [u32],
-) -> Written
+) -> Option<Size>
     requires { CanWalk deltas.now words.now p end × (0 < p) × (max_bars < 2 ^ 32) × VoicesHeld n work.now lens }
     ensures { StaffWritten p (bars_of deltas.now words.now p end max_bars) (voices_of n work.now lens)
         counts.old heads.old keys.old leftovers.old
@@ -105,7 +98,7 @@ pub fn write_staff(
             true, &values, deltas, words, end, max_bars, work, n, lens, counts, heads, keys,
             leftovers,
         );
-        return Written { fits: true, size };
+        return Some(size);
     }
-    Written { fits: false, size }
+    None
 }
