@@ -26,6 +26,7 @@ fn count_on(read: usize) -> usize
     ensures { read ≤ result }
 {
     let mut n = read;
+    // Kept: how far each step goes is known only after it, so no range says the steps.
     while n <= MOST_BYTES {
         let more = pass_over();
         if more == 0 {
