@@ -7,17 +7,13 @@ ghost use Rattle.rules.specs.Piece.{piece};
 ghost use Rattle.rules.specs.RawNotes.{raw_notes};
 ghost use Rattle.rules.specs.Calls.{part_size, staff_size_call, StaffSizeCalled, engrave_call, EngraveCalled};
 ghost use Rattle.track_events.specs.Track.{events_of};
-ghost use Rattle.engraver.specs.Sizes.{result_of};
+ghost use Rattle.engraver.specs.Sizes.{Outputs};
 ghost use Rattle.staffs.specs.Parts.{answer_of, HasTrack, TrackVoices, PartVoiced};
 
-use basics::MOST_BARS;
-use engraver::{Size, Written};
-
-#[derive(Clone, Copy)]
-pub enum StaffAnswer {
-    Refused(u32),
-    Given(Size),
-}
+use bar_source::BarSource;
+use basics::{MOST_BARS, Refusal};
+use engraver::Size;
+use track_events::cut;
 
 // The four voices of a track's notes, on their own grid, in the work area: how many chords each has.
 fn track_voices(deltas: &[u32], words: &[u32], p: u64, work: &mut [u64], n: usize) -> [usize; 4]
@@ -30,70 +26,51 @@ fn track_voices(deltas: &[u32], words: &[u32], p: u64, work: &mut [u64], n: usiz
     voices.lens
 }
 
-// A part's voices in the work area, of columns of `most` words. The number is 0, or the first of 1 to 8 that applies.
+// A part's voices in the work area, of columns of `most` words, and what the piece's bars are walked from.
 #[derive(Drop)]
 pub struct PartVoices {
-    pub number: u32,
+    pub source: BarSource,
     pub most: usize,
     pub lens: [usize; 4],
 }
 
+// What both calls go on from. Refusals 1 to 8.
 fn part_voices(
     sizes: &[u32],
     deltas: &[u32],
     words: &[u32],
     part: u32,
     work: &mut [u64],
-) -> PartVoices
+) -> Result<PartVoices, Refusal>
     ensures { PartVoiced (piece sizes.now deltas.now words.now) part (length work.old) work.new result }
 {
-    let opened = opening::open_part(sizes, deltas, words, part);
-    if opened.number != 0 {
-        return PartVoices {
-            number: opened.number,
-            most: 0,
-            lens: [0; 4],
-        };
-    }
+    let track = opening::open_part(sizes, deltas, words, part)?;
     let most = tracks::most_notes(sizes, deltas, words);
     if work.len() < basics::work_for(most) {
-        return PartVoices {
-            number: 8,
-            most: 0,
-            lens: [0; 4],
-        };
+        return Err(Refusal::NoRoom);
     }
-    let own_deltas = track_events::cut(deltas, opened.from, opened.to);
-    let own_words = track_events::cut(words, opened.from, opened.to);
+    let own_deltas = cut(deltas, track.from, track.to);
+    let own_words = cut(words, track.from, track.to);
     let p = tracks::ticks_per_quarter(sizes);
     let lens = track_voices(own_deltas, own_words, p, work, most);
-    PartVoices {
-        number: 0,
-        most,
-        lens,
-    }
+    let source = bar_source::bar_source(sizes, deltas, words);
+    Ok(PartVoices { source, most, lens })
 }
 
-// The size of a part's staff, its bars and items: what engraving needs room for. Refusals 1 to 8.
-pub fn staff_size(
+// The size of a part's staff. What it leaves in the work area is not said.
+fn measure_part(
     sizes: &[u32],
     deltas: &[u32],
     words: &[u32],
     part: u32,
     work: &mut [u64],
-) -> StaffAnswer
-    ensures { StaffSizeCalled as_it_is
-        (staff_size_call (piece sizes.now deltas.now words.now) part (length work.old))
-        work.old (answer_of result) work.new }
+) -> Result<Size, Refusal>
+    ensures { answer_of result ≡ staff_size_call (piece sizes.now deltas.now words.now) part (length work.old) }
 {
-    let v = part_voices(sizes, deltas, words, part, work);
-    if v.number != 0 {
-        basics::clear(work);
-        return StaffAnswer::Refused(v.number);
-    }
-    let s = bar_source::bar_source(sizes, deltas, words);
-    let first_deltas = track_events::cut(deltas, s.from, s.to);
-    let first_words = track_events::cut(words, s.from, s.to);
+    let v = part_voices(sizes, deltas, words, part, work)?;
+    let s = v.source;
+    let first_deltas = cut(deltas, s.from, s.to);
+    let first_words = cut(words, s.from, s.to);
     let lens = v.lens;
     let measured = engraver::measure_staff(
         s.p,
@@ -105,24 +82,28 @@ pub fn staff_size(
         v.most,
         lens,
     );
-    basics::clear(work);
-    StaffAnswer::Given(measured)
+    Ok(measured)
 }
 
-// No room in the outputs is refused by number 8.
-fn answer(written: Written) -> StaffAnswer
-    ensures { answer_of result ≡ result_of written }
+// The size of a part's staff, its bars and items: what engraving needs room for. Refusals 1 to 8.
+pub fn staff_size(
+    sizes: &[u32],
+    deltas: &[u32],
+    words: &[u32],
+    part: u32,
+    work: &mut [u64],
+) -> Result<Size, Refusal>
+    ensures { StaffSizeCalled as_it_is
+        (staff_size_call (piece sizes.now deltas.now words.now) part (length work.old))
+        work.old (answer_of result) work.new }
 {
-    if written.fits {
-        let size = written.size;
-        return StaffAnswer::Given(size);
-    }
-    StaffAnswer::Refused(8)
+    let answer = measure_part(sizes, deltas, words, part, work);
+    basics::clear(work);
+    answer
 }
 
-// A part's staff: four counts a bar, and a head and two words of keys an item; and four leftovers a bar, the ticks of each voice that no item
-// took. Refusals 1 to 8.
-pub fn engrave(
+// A part's staff in the outputs, where they have room. What it leaves in the work area is not said.
+fn engrave_part(
     sizes: &[u32],
     deltas: &[u32],
     words: &[u32],
@@ -132,23 +113,19 @@ pub fn engrave(
     keys: &mut [u64],
     leftovers: &mut [u32],
     work: &mut [u64],
-) -> StaffAnswer
-    ensures { EngraveCalled as_it_is
+) -> Result<Size, Refusal>
+    ensures { Outputs
         (part_size (piece sizes.now deltas.now words.now) part)
         (engrave_call (piece sizes.now deltas.now words.now) part
         (length counts.old) (length heads.old) (length keys.old) (length leftovers.old)
         (length work.old))
-        counts.old heads.old keys.old leftovers.old work.old
-        (answer_of result) counts.new heads.new keys.new leftovers.new work.new }
+        counts.old heads.old keys.old leftovers.old
+        counts.new heads.new keys.new leftovers.new (answer_of result) }
 {
-    let voices = part_voices(sizes, deltas, words, part, work);
-    if voices.number != 0 {
-        basics::clear(work);
-        return StaffAnswer::Refused(voices.number);
-    }
-    let s = bar_source::bar_source(sizes, deltas, words);
-    let first_deltas = track_events::cut(deltas, s.from, s.to);
-    let first_words = track_events::cut(words, s.from, s.to);
+    let voices = part_voices(sizes, deltas, words, part, work)?;
+    let s = voices.source;
+    let first_deltas = cut(deltas, s.from, s.to);
+    let first_words = cut(words, s.from, s.to);
     let lens = voices.lens;
     let written = engraver::write_staff(
         s.p,
@@ -164,6 +141,33 @@ pub fn engrave(
         keys,
         leftovers,
     );
+    written.ok_or(Refusal::NoRoom)
+}
+
+// A part's staff: four counts a bar, and a head and two words of keys an item; and four leftovers a bar, the ticks of each voice that no item
+// took. Refusals 1 to 8.
+pub fn engrave(
+    sizes: &[u32],
+    deltas: &[u32],
+    words: &[u32],
+    part: u32,
+    counts: &mut [u32],
+    heads: &mut [u32],
+    keys: &mut [u64],
+    leftovers: &mut [u32],
+    work: &mut [u64],
+) -> Result<Size, Refusal>
+    ensures { EngraveCalled as_it_is
+        (part_size (piece sizes.now deltas.now words.now) part)
+        (engrave_call (piece sizes.now deltas.now words.now) part
+        (length counts.old) (length heads.old) (length keys.old) (length leftovers.old)
+        (length work.old))
+        counts.old heads.old keys.old leftovers.old work.old
+        (answer_of result) counts.new heads.new keys.new leftovers.new work.new }
+{
+    let answer = engrave_part(
+        sizes, deltas, words, part, counts, heads, keys, leftovers, work,
+    );
     basics::clear(work); // and not the outputs
-    answer(written)
+    answer
 }
