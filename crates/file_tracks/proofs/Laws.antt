@@ -1,16 +1,15 @@
 -- What is gathered: arrays filled as far as they go, one event, one track, one chunk more, and what is left to read.
-use Prim.Native.Nat.{ℕ, suc, ◌+◌, ◌-◌, ◌*◌, ◌≤◌, ◌<◌}
+use Prim.Native.Nat.{ℕ, ◌+◌, ◌-◌, ◌≤◌, ◌<◌}
 use mathlib.Core.Bool.{Bool, true, false, cond, ◌&&◌, and-true, and_assoc}
 use mathlib.Core.List.{List, [], ◌∷◌, ◌++◌, map, flatten, append-nil, append_assoc, map-append}
 use mathlib.Core.Logic.{inl, inr}
 use mathlib.Core.Option.{Option, none, some}
 use mathlib.Core.Path.{◌≡◌, refl, ap, sym, ◌∙◌}
-use native.Mathlib.Numerals.{add-one}
 use native.Mathlib.Omega.{arith}
 use borrow.Author.Tests.{lt-ltb, le-ltb, le-leb, lt-leb, ltb-true, ltb-false, eqb-true, eqb-false}
 use lib.Dec.{ltb, eqb}
-use lib.ListN.{length, get_or, take, drop, set, length-append, length-take, length-drop, length-map, drop_of_length-le}
-use lib.Seq.{take-nil, take_all, take-append-le, append_snoc, drop-cons, take-add, drop-drop}
+use lib.ListN.{length, take, drop, set, length-append, length-take, length-drop, length-map, drop_of_length-le}
+use lib.Seq.{take-nil, take_all, take-append-le, append_snoc, drop-cons, drop-drop}
 use Rattle.std.specs.Prelude as std
 use Rattle.std.specs.Prelude.{Some}
 use Rattle.std.specs.Bool.{then_some}
@@ -218,18 +217,6 @@ grown_ended true g h n a b t = (a, b, omega (arith, t))
 grown_ended false g h n a b t = tt
 
 -- ---- chunks
-
--- two bytes at a place as one number, and four
-two_bytes : (bs : List ℕ) (at : ℕ) → at + 2 ≤ length bs → take 2 (drop at bs) ≡ get_or bs at 0 ∷ get_or bs (at + 1) 0 ∷ []
-two_bytes bs at h = rw (drop-cons bs at 0 (omega arith), drop-cons bs (suc at) 0 (omega arith), add-one)
-
-pub two_bytes_is : (bs : List ℕ) (at : ℕ) → at + 2 ≤ length bs → big_endian (take 2 (drop at bs)) ≡ get_or bs at 0 * 256 + get_or bs (at + 1) 0
-two_bytes_is bs at h = rw (two_bytes bs at h) (omega arith)
-
-pub four_bytes_is : (bs : List ℕ) (at : ℕ) → at + 4 ≤ length bs
-    → big_endian (take 4 (drop at bs)) ≡ big_endian (take 2 (drop at bs)) * 65536 + big_endian (take 2 (drop (at + 2) bs))
-four_bytes_is bs at h =
-    rw (take-add 2 2 (drop at bs), drop-drop 2 at bs, two_bytes bs at (omega arith), two_bytes bs (at + 2) (omega arith)) (omega arith)
 
 module _ (bs : List ℕ) (at : ℕ) where
   abbrev size : ℕ

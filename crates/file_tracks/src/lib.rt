@@ -13,9 +13,9 @@ ghost use Rattle.file_tracks.specs.Gathering.{stored, EventsHeld, TracksHeld, Gr
 use file_events::TimedEvent;
 
 // The letters MThd and MTrk, as numbers.
-pub const MTHD: u32 = 1297377380;
+pub const MTHD: u32 = 0x4d54_6864;
 
-const MTRK: u32 = 1297379947;
+const MTRK: u32 = 0x4d54_726b;
 
 // What was gathered: tracks and events counted; good says whether every word is in the table of kinds.
 #[derive(Clone, Copy)]
@@ -89,27 +89,19 @@ fn read_track(
     None
 }
 
-// A byte as a wider number.
-fn byte(bytes: &[u8], at: usize) -> u32
-    requires { at < length bytes.now }
-    ensures { (result ≡ get_or bytes.now at 0) × (result < 256) }
-{
-    u32::from(bytes[at])
-}
-
 // A number of two bytes, and of four, the most significant first.
 pub fn two_bytes(bytes: &[u8], at: usize) -> u32
     requires { at + 2 ≤ length bytes.now }
     ensures { (result ≡ big_endian (take 2 (drop at bytes.now))) × (result < 65536) }
 {
-    byte(bytes, at) * 256 + byte(bytes, at + 1)
+    u32::from(u16::from_be_bytes([bytes[at], bytes[at + 1]]))
 }
 
 fn four_bytes(bytes: &[u8], at: usize) -> u32
     requires { at + 4 ≤ length bytes.now }
     ensures { result ≡ big_endian (take 4 (drop at bytes.now)) }
 {
-    two_bytes(bytes, at) * 65536 + two_bytes(bytes, at + 2)
+    u32::from_be_bytes([bytes[at], bytes[at + 1], bytes[at + 2], bytes[at + 3]])
 }
 
 // The chunk at a place.
