@@ -14,7 +14,8 @@ use Rattle.rules.specs.Calls.{part_notes, proof_read_call}
 use Rattle.track_events.specs.Track.{stretch, events_of}
 use Rattle.track_events.proofs.Ranges.{track_notes}
 use Rattle.raw_notes.specs.Columns.{Noted}
-use Rattle.opening.specs.declared.OpenedPart.{OpenedPart}
+use Rattle.std.specs.Prelude.{Ok}
+use Rattle.tracks.specs.declared.Span.{Span}
 use Rattle.opening.specs.Opening.{PartOpened}
 use Rattle.opening.proofs.Opening.{part_passes, part_admitted, own_track, work_enough}
 use Rattle.bar_source.specs.declared.BarSource.{BarSource}
@@ -24,7 +25,7 @@ use Rattle.proofread_notes.specs.Columns.{Readable}
 use Rattle.proofread_staff.specs.Staffs.{raws_at, answer_on}
 use Rattle.proofread.proofs.Collected.{raws_are, notes_readable}
 
-module _ (x : Piece) (k : ℕ) {r : OpenedPart} (opened : PartOpened x k r) (z : r.number ≡ 0) {b : BarSource} (source : IsBarSource x b)
+module _ (x : Piece) (k : ℕ) {r : Span} (opened : PartOpened x k (Ok r)) {b : BarSource} (source : IsBarSource x b)
     {n : ℕ} (most : n ≡ most_notes x) where
   -- the part's own events, and those that the bars go by
   abbrev owns : List Event
@@ -36,17 +37,17 @@ module _ (x : Piece) (k : ℕ) {r : OpenedPart} (opened : PartOpened x k r) (z :
   -- the m notes of the work area w are the part's, and g is their grid
   module _ {g m : ℕ} {w : List ℕ} (noted : Noted owns n m w) (grids : g ≡ grid b.p (raws_at n m w)) where
     pub readable : 16 * n ≤ length w → Readable g n m w
-    readable area = notes_readable noted (track_notes (own_track x k opened z)) b.p (small x (part_admitted x k opened z) source) area grids
+    readable area = notes_readable noted (track_notes (own_track x k opened)) b.p (small x (part_admitted x k opened) source) area grids
 
     notes : raws_at n m w ≡ raw_notes owns
-    notes = raws_are noted (track_notes (own_track x k opened z))
+    notes = raws_are noted (track_notes (own_track x k opened))
 
     pub reading_given : (s : StaffArrays) (work : ℕ) {a : Result Bool} → work_for n ≤ work
         → a ≡ answer_on b.p g (raws_at n m w) (bars_in most_bars b.p firsts b.end) s
         → a ≡ proof_read_call x k s work
     reading_given s work enough answer =
         answer ∙ on_their_grid ∙ same
-        ∙ sym (work_enough x (part_refusals x k) (part_passes x k opened z) n work most _ _ enough)
+        ∙ sym (work_enough x (part_refusals x k) (part_passes x k opened) n work most _ _ enough)
       where
         on_their_grid : answer_on b.p g (raws_at n m w) (bars_in most_bars b.p firsts b.end) s
             ≡ answer_on b.p (grid b.p (raw_notes owns)) (raw_notes owns) (bars_in most_bars b.p firsts b.end) s
@@ -56,5 +57,5 @@ module _ (x : Piece) (k : ℕ) {r : OpenedPart} (opened : PartOpened x k r) (z :
         same : answer_on b.p (grid b.p (raw_notes owns)) (raw_notes owns) (bars_in most_bars b.p firsts b.end) s
             ≡ answer_on (ticks_per_quarter x) (grid (ticks_per_quarter x) (part_notes x k)) (part_notes x k) (bars x) s
         same i =
-            answer_on (source.quarter i) (grid (source.quarter i) (raw_notes ((opened.own z).events i))) (raw_notes ((opened.own z).events i))
+            answer_on (source.quarter i) (grid (source.quarter i) (raw_notes (opened.own.events i))) (raw_notes (opened.own.events i))
             (bars_are source most_bars i) s

@@ -1,9 +1,9 @@
 -- What the answer means: its number, or yes or no.
 use Rattle.std.specs.Prelude.{Bool}
-use Rattle.rules.specs.Refusals.{Result, refused, given}
-use Rattle.proofread.specs.declared.ReadAnswer.{ReadAnswer}
-use Rattle.proofread.specs.declared.ReadAnswer.TheVariants as variants
+use Rattle.std.specs.Prelude as std
+use Rattle.rules.specs.Refusals.{Result, as_it_is}
+use Rattle.basics.specs.declared.Refusal.{Refusal}
+use Rattle.basics.specs.Refusals.{told_by}
 
-abbrev pub read_answer : ReadAnswer → Result Bool
-read_answer (variants.Refused n) = refused n
-read_answer (variants.Given b) = given b
+abbrev pub read_answer : std.Result Bool Refusal → Result Bool
+read_answer r = told_by as_it_is r

@@ -9,25 +9,61 @@ ghost use Rattle.rules.specs.Calls.{proof_read_call, ProofReadCalled};
 ghost use Rattle.proofread_staff.specs.Staffs.{answer_of};
 ghost use Rattle.proofread.specs.Answers.{read_answer};
 
-use basics::MOST_BARS;
+use basics::{MOST_BARS, Refusal};
 use proofread_staff::Reading;
-
-// Refused, or whether the staff is right.
-#[derive(Clone, Copy)]
-pub enum ReadAnswer {
-    Refused(u32),
-    Given(bool),
-}
+use track_events::cut;
 
 // The answer of a reading: an uneven part is number 9.
-fn answered(reading: Reading) -> ReadAnswer
+fn answered(reading: Reading) -> Result<bool, Refusal>
     ensures { read_answer result ≡ answer_of reading }
 {
     match reading {
-        Reading::Yes => ReadAnswer::Given(true),
-        Reading::No => ReadAnswer::Given(false),
-        Reading::Uneven => ReadAnswer::Refused(9),
+        Reading::Yes => Ok(true),
+        Reading::No => Ok(false),
+        Reading::Uneven => Err(Refusal::UnevenPart),
     }
+}
+
+// Whether a part's staff is right. What it leaves in the work area is not said.
+fn read_staff(
+    sizes: &[u32],
+    deltas: &[u32],
+    words: &[u32],
+    part: u32,
+    counts: &[u32],
+    heads: &[u32],
+    keys: &[u64],
+    work: &mut [u64],
+) -> Result<bool, Refusal>
+    ensures { read_answer result
+        ≡ proof_read_call (piece sizes.now deltas.now words.now) part
+        (record { counts = counts.entry.now; heads = heads.now; keys = keys.now }) (length work.old) }
+{
+    let track = opening::open_part(sizes, deltas, words, part)?;
+    let n = tracks::most_notes(sizes, deltas, words);
+    if work.len() < basics::work_for(n) {
+        return Err(Refusal::NoRoom);
+    }
+    let own_deltas = cut(deltas, track.from, track.to);
+    let own_words = cut(words, track.from, track.to);
+    let m = raw_notes::collect_raw_notes(own_deltas, own_words, work, n);
+    let source = bar_source::bar_source(sizes, deltas, words);
+    let g = proofread_staff::grid_of(work, n, m, source.p);
+    let reading = proofread_staff::read_part(
+        source.p,
+        cut(deltas, source.from, source.to),
+        cut(words, source.from, source.to),
+        source.end,
+        MOST_BARS,
+        counts,
+        heads,
+        keys,
+        work,
+        n,
+        m,
+        g,
+    );
+    answered(reading)
 }
 
 // Whether a part's staff is right, whatever stands in its arrays. Refusals 1 to 9.
@@ -40,41 +76,13 @@ pub fn proof_read(
     heads: &[u32],
     keys: &[u64],
     work: &mut [u64],
-) -> ReadAnswer
+) -> Result<bool, Refusal>
     ensures { ProofReadCalled as_it_is
         (proof_read_call (piece sizes.now deltas.now words.now) part
         (record { counts = counts.entry.now; heads = heads.now; keys = keys.now }) (length work.old))
         work.old (read_answer result) work.new }
 {
-    let opened = opening::open_part(sizes, deltas, words, part);
-    if opened.number != 0 {
-        basics::clear(work);
-        return ReadAnswer::Refused(opened.number);
-    }
-    let n = tracks::most_notes(sizes, deltas, words);
-    if work.len() < basics::work_for(n) {
-        basics::clear(work);
-        return ReadAnswer::Refused(8);
-    }
-    let own_deltas = track_events::cut(deltas, opened.from, opened.to);
-    let own_words = track_events::cut(words, opened.from, opened.to);
-    let m = raw_notes::collect_raw_notes(own_deltas, own_words, work, n);
-    let source = bar_source::bar_source(sizes, deltas, words);
-    let g = proofread_staff::grid_of(work, n, m, source.p);
-    let reading = proofread_staff::read_part(
-        source.p,
-        track_events::cut(deltas, source.from, source.to),
-        track_events::cut(words, source.from, source.to),
-        source.end,
-        MOST_BARS,
-        counts,
-        heads,
-        keys,
-        work,
-        n,
-        m,
-        g,
-    );
+    let answer = read_staff(sizes, deltas, words, part, counts, heads, keys, work);
     basics::clear(work);
-    answered(reading)
+    answer
 }
