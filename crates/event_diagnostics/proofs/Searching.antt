@@ -1,29 +1,26 @@
 -- Groups 2 and 3: one event more of a pass over a track, and the first meter.
-use Prim.Native.Nat.{ℕ, suc, ◌+◌, ◌%◌, ◌≤◌, ◌<◌, ◌^◌}
-use mathlib.Core.Bool.{true, false, not, ◌&&◌, and-false, and-true}
+use Prim.Native.Nat.{ℕ, suc, ◌+◌, ◌≤◌, ◌<◌, ◌^◌}
+use mathlib.Core.Bool.{true, false}
 use mathlib.Core.List.{List, [], ◌∷◌, ◌++◌, map, map-append, append-nil}
 use mathlib.Core.Logic.{⊎_elim}
 use mathlib.Core.Path.{◌≡◌, refl, sym, ap, ◌∙◌}
-use native.Mathlib.Nat.{zero-mod}
 use native.Mathlib.Numerals.{add-one}
 use native.Mathlib.Omega.{arith}
-use borrow.Author.Tests.{eq-eqb, ne_eqb, lt-ltb, le-ltb}
-use lib.Dec.{eqb, ltb}
 use lib.ListN.{length, get_or, drop}
 use lib.Seq.{append_snoc, drop-cons}
 use Rattle.rules.specs.Lists.{keep, sum, first_or}
-use Rattle.rules.specs.Piece.{Event, timed, is_kind, kind_of}
+use Rattle.rules.specs.Piece.{Event, timed, is_kind}
 use Rattle.rules.specs.Changes.{Change, Meter, common_time, meter_of, meter_changes}
 use Rattle.rules.specs.Diagnostics.{at_event}
 use Rattle.laws.proofs.Lists.{keep_append}
 use Rattle.laws.proofs.Loops.{keep_done}
-use Rattle.laws.proofs.Order.{by_bool, by_eq}
+use Rattle.laws.proofs.Order.{by_bool}
 use Rattle.track_events.specs.Track.{events_of, left, tick_at}
 use Rattle.track_events.proofs.Tracks.{left_cons, left_none, tick_next, track_sum}
 use Rattle.event_diagnostics.specs.declared.Group.{Group}
 use Rattle.event_diagnostics.specs.declared.Group.TheVariants.{OffMeasure, System}
 use Rattle.findings.specs.Found.{Found, FoundIn}
-use Rattle.event_diagnostics.specs.Groups.{meter_in, off_measure, code_of, is_found, found_of, found_one, Searchable}
+use Rattle.event_diagnostics.specs.Groups.{meter_in, code_of, is_found, found_of, found_one, Searchable}
 use Rattle.findings.proofs.Putting.{found_none, found_append, found_as}
 
 -- what is found in the events of two lists
@@ -106,38 +103,18 @@ pub any_meter : (ds ws : List ℕ) → length ws ≡ length ds → first_or comm
 any_meter ds ws h = ap (first_or common_time) (meters 0 0 ds ws h)
 
 module _ (ws : List ℕ) (i : ℕ) where
-  pub meter_here : i < length ws → kind_of (get_or ws i 0) ≡ 3 → meter_in (drop i ws) ≡ meter_of (get_or ws i 0)
+  pub meter_here : i < length ws → is_kind 3 (get_or ws i 0) ≡ true → meter_in (drop i ws) ≡ meter_of (get_or ws i 0)
   unfolding keep
-  meter_here h k = rw (drop-cons ws i 0 h, eq-eqb (kind_of (get_or ws i 0)) 3 k)
+  meter_here h k = rw (drop-cons ws i 0 h, k)
 
-  pub meter_on : i < length ws → (kind_of (get_or ws i 0) ≡ 3 → ⊥) → meter_in (drop i ws) ≡ meter_in (drop (i + 1) ws)
+  pub meter_on : i < length ws → is_kind 3 (get_or ws i 0) ≡ false → meter_in (drop i ws) ≡ meter_in (drop (i + 1) ws)
   unfolding keep
-  meter_on h k = rw (drop-cons ws i 0 h, ne_eqb (kind_of (get_or ws i 0)) 3 k, add-one)
+  meter_on h k = rw (drop-cons ws i 0 h, k, add-one)
 
   pub meter_none : length ws ≤ i → meter_in (drop i ws) ≡ common_time
   meter_none h = ap (λ (l : List ℕ). first_or common_time (map meter_of l)) (keep_done (is_kind 3) ws i h)
 
--- ---- off the measure
+-- ---- codes
 pub code_small : (g : Group) → code_of g ≤ 5
 code_small (OffMeasure l) = omega arith
 code_small System = omega arith
-
-module _ (l t w : ℕ) where
-  pub off_other : (kind_of w ≡ 2 → ⊥) → (kind_of w ≡ 3 → ⊥) → off_measure l t w ≡ false
-  off_other h k = rw (ne_eqb (kind_of w) 2 h, ne_eqb (kind_of w) 3 k)
-
-  pub off_none : l ≡ 0 → off_measure l t w ≡ false
-  off_none z = rw (z, and-false)
-
-  pub off_is : 2 ≤ kind_of w → kind_of w ≤ 3 → (l ≡ 0 → ⊥) → off_measure l t w ≡ not (eqb (t % l) 0)
-  off_is a b n =
-      ⊎_elim (λ k. rw (eq-eqb (kind_of w) 2 k, ne_eqb l 0 n) later) (λ k. rw (ne_eqb (kind_of w) 2 k, eq-eqb (kind_of w) 3 (omega arith), ne_eqb l 0 n) later)
-      (by_eq (kind_of w) 2)
-    where
-      later : ltb 0 t && not (eqb (t % l) 0) && true ≡ not (eqb (t % l) 0)
-      later =
-          rw and-true
-          (⊎_elim
-          (λ z. let e : t % l ≡ 0 = ap (λ (k : ℕ). k % l) z ∙ zero-mod l in rw (eq-eqb (t % l) 0 e, le-ltb 0 t (omega arith)))
-          (λ z. rw (lt-ltb 0 t (omega arith)))
-          (by_eq t 0))

@@ -8,15 +8,15 @@ ghost use Rattle.track_events.specs.Track.{events_of};
 ghost use Rattle.findings.specs.Found.{Found, FoundIn};
 ghost use Rattle.event_diagnostics.specs.Groups.{meter_in, meter_length, off_measure, code_of, is_found, found_one, found_of, Searchable};
 
-use basics::wide;
+use track_events::{Kind, is_kind};
 
 // The length of a meter's word.
 fn length_of(p: u64, word: u32) -> u64
     requires { (p ≤ largest_size) × (byte_b word ≤ 7) }
     ensures { result ≡ 4 * p * upper_figure word / lower_figure word }
 {
-    let upper = wide(track_events::byte_a(word));
-    let lower = wide(changes::lower_of(word));
+    let upper = u64::from(track_events::byte_a(word));
+    let lower = u64::from(changes::lower_of(word));
     4 * p * upper / lower
 }
 
@@ -25,12 +25,10 @@ pub fn first_meter_length(p: u64, words: &[u32]) -> u64
     requires { (p ≤ largest_size) × All (λ w. well_formed w ≡ true) words.now }
     ensures { result ≡ meter_length p (meter_in words.now) }
 {
-    let mut i = 0;
-    while i < words.len() {
-        if track_events::kind_of(words[i]) == 3 {
-            return length_of(p, words[i]);
+    for w in words {
+        if is_kind(*w, Kind::Meter) {
+            return length_of(p, *w);
         }
-        i += 1;
     }
     4 * p
 }
@@ -39,17 +37,8 @@ pub fn first_meter_length(p: u64, words: &[u32]) -> u64
 fn is_off_measure(length: u64, tick: u64, word: u32) -> bool
     ensures { result ≡ off_measure length tick word }
 {
-    let k = track_events::kind_of(word);
-    if k < 2 {
-        return false;
-    }
-    if 3 < k {
-        return false;
-    }
-    if length == 0 {
-        return false;
-    }
-    tick % length != 0
+    let changes = is_kind(word, Kind::Tempo) || is_kind(word, Kind::Meter);
+    changes && length != 0 && tick % length != 0
 }
 
 // What is looked for: events off the measure, of this length, or system events.
@@ -74,7 +63,7 @@ fn is_found(group: Group, tick: u64, word: u32) -> bool
 {
     match group {
         Group::OffMeasure(length) => is_off_measure(length, tick, word),
-        Group::System => track_events::kind_of(word) == 1,
+        Group::System => is_kind(word, Kind::System),
     }
 }
 
@@ -117,11 +106,9 @@ pub fn find_events(
 {
     let mut next = at;
     let mut tick = 0;
-    let mut i = 0;
-    while i < deltas.len() {
-        tick += wide(deltas[i]);
+    for i in 0..deltas.len() {
+        tick += u64::from(deltas[i]);
         next = put_event(group, track, i, tick, words[i], next, places, details);
-        i += 1;
     }
     next
 }

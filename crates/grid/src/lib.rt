@@ -1,24 +1,18 @@
 // The grid that a part's notes are snapped to.
 #![tactic(auto)]
 
-ghost use Rattle.std.specs.Prelude.{◌<◌, ◌≤◌, ◌^◌, max, ◌≡◌};
+ghost use Rattle.std.specs.Prelude.{◌<◌, ◌≤◌, ◌^◌, ◌≡◌};
 ghost use Rattle.rules.specs.Grid.{sixteenth, is_off_grid, grid, snap};
 ghost use Rattle.rules.specs.Piece.{largest_size};
 ghost use Rattle.rules.specs.RawNotes.{raw_notes};
 ghost use Rattle.track_events.specs.Track.{Track, events_of};
 ghost use Rattle.grid.specs.Counts.{counted};
 
-fn at_least_one(n: u64) -> u64
-    ensures { result ≡ max 1 n }
-{
-    if n == 0 { 1 } else { n }
-}
-
 // A sixteenth's ticks.
 pub fn sixteenth(p: u64) -> u64
     ensures { result ≡ sixteenth p }
 {
-    at_least_one(p / 4)
+    (p / 4).max(1)
 }
 
 // Whether a start is off the sixteenths by more than a quarter of one.
@@ -45,25 +39,11 @@ fn count_start(s: Starts, delta: u32, word: u32, p: u64) -> Starts
     ensures { result ≡ counted p s delta word }
 {
     let tick = s.tick + delta as u64;
-    if !track_events::is_on(word) {
-        return Starts {
-            tick,
-            ons: s.ons,
-            offs: s.offs,
-        };
-    }
-    if is_off_grid(tick, p) {
-        Starts {
-            tick,
-            ons: s.ons + 1,
-            offs: s.offs + 1,
-        }
-    } else {
-        Starts {
-            tick,
-            ons: s.ons + 1,
-            offs: s.offs,
-        }
+    let on = track_events::is_on(word);
+    Starts {
+        tick,
+        ons: s.ons + u64::from(on),
+        offs: s.offs + u64::from(on && is_off_grid(tick, p)),
     }
 }
 
@@ -77,13 +57,11 @@ pub fn grid_ticks(deltas: &[u32], words: &[u32], p: u64) -> u64
         ons: 0,
         offs: 0,
     };
-    let mut k: usize = 0;
-    while k < deltas.len() {
+    for k in 0..deltas.len() {
         s = count_start(s, deltas[k], words[k], p);
-        k += 1;
     }
     if s.offs * 10 > s.ons {
-        at_least_one(p / 8)
+        (p / 8).max(1)
     } else {
         sixteenth(p)
     }

@@ -10,7 +10,6 @@ ghost use Rattle.laws.specs.Admitted.{Admitted};
 ghost use Rattle.findings.specs.Found.{FoundIn};
 ghost use Rattle.loss_diagnostics.specs.Pieces.{most_diagnostics, CanFind};
 
-use basics::size;
 use event_diagnostics::{Group, find_events};
 use track_events::cut;
 
@@ -29,9 +28,8 @@ fn system_events(
 {
     let mut next = at;
     let mut from = 0;
-    let mut i = 2;
-    while i < sizes.len() {
-        let to = from + size(sizes[i]);
+    for i in 2..sizes.len() {
+        let to = from + sizes[i] as usize;
         next = find_events(
             Group::System,
             (i - 2) as u64,
@@ -42,7 +40,6 @@ fn system_events(
             details,
         );
         from = to;
-        i += 1;
     }
     next
 }
@@ -66,9 +63,8 @@ fn unmatched_tracks(
     let mut tails = [[0u32; 128]; 16];
     let mut next = at;
     let mut from = 0;
-    let mut i = 2;
-    while i < sizes.len() {
-        let to = from + size(sizes[i]);
+    for i in 2..sizes.len() {
+        let to = from + sizes[i] as usize;
         next = unmatched::unmatched_notes(
             cut(deltas, from, to),
             cut(words, from, to),
@@ -82,7 +78,6 @@ fn unmatched_tracks(
             details,
         );
         from = to;
-        i += 1;
     }
     next
 }

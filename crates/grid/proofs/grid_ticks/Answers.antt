@@ -14,7 +14,7 @@ loop-k-preserved c =
 pub returns-then-s : goal.returns-then-s
 returns-then-s c =
     let here = c.loop-k in
-    c.at_least_one.ensures ∙ sym (counting_fine here.invariant (omega arith) c.if-s.true)
+    omega (arith, c.max.ensures, counting_fine here.invariant (omega arith) c.if-s.true)
 
 pub returns-else-s : goal.returns-else-s
 returns-else-s c =

@@ -1,3 +1,4 @@
+use mathlib.Core.Path.{refl}
 use native.Mathlib.Omega.{arith}
 use Rattle.pairing.proofs.Grids.{zeros_grid, zeros_empty}
 use Rattle.tracks.proofs.Cuts.{cut_deltas, cut_words}
@@ -9,13 +10,13 @@ pub loop-i-init : goal.loop-i-init
 loop-i-init c = tracking_start c.requires.0 zeros_empty zeros_grid
 
 pub overflow_add-to : goal.overflow_add-to
-overflow_add-to c = omega (arith, (cut_deltas c.loop-i.invariant.walk.cut (omega arith) c.size.ensures).1)
+overflow_add-to c = omega (arith, (cut_deltas c.loop-i.invariant.walk.cut (omega arith) refl).1)
 
 pub cut-requires : goal.cut-requires
-cut-requires c = cut_deltas c.loop-i.invariant.walk.cut (omega arith) c.size.ensures
+cut-requires c = cut_deltas c.loop-i.invariant.walk.cut (omega arith) refl
 
 pub cut-requires-in-loop-i : goal.cut-requires-in-loop-i
-cut-requires-in-loop-i c = cut_words c.loop-i.invariant.walk.cut (omega arith) c.size.ensures
+cut-requires-in-loop-i c = cut_words c.loop-i.invariant.walk.cut (omega arith) refl
 
 pub overflow_sub-i : goal.overflow_sub-i
 overflow_sub-i c = omega (arith, c.loop-i.invariant.walk.behind)
@@ -24,15 +25,14 @@ pub unmatched_notes-next-requires : goal.unmatched_notes-next-requires
 unmatched_notes-next-requires c =
     let pre = c.requires in
     rw (c.cut.ensures, c.cut-in-loop-i.ensures)
-    (rw c.size.ensures (tracking_fresh pre.0 pre.1 c.loop-i.invariant (omega arith)))
+    (tracking_fresh pre.0 pre.1 c.loop-i.invariant (omega arith))
 
 pub loop-i-preserved : goal.loop-i-preserved
 loop-i-preserved c =
     let pre = c.requires in
     let found = rw (c.cut.ensures, c.cut-in-loop-i.ensures) at c.unmatched_notes-next.ensures.1 in
-    rw c.size.ensures
-    (tracking_next pre.0 pre.1 c.loop-i.invariant (omega arith) c.unmatched_notes-next.auto.work
-    c.unmatched_notes-next.ensures.0 (rw c.size.ensures at found))
+    tracking_next pre.0 pre.1 c.loop-i.invariant (omega arith) c.unmatched_notes-next.auto.work
+    c.unmatched_notes-next.ensures.0 found
 
 pub shape_of-places : goal.shape_of-places
 shape_of-places c = places_kept c.loop-i.invariant.walk.found
