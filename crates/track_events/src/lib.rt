@@ -57,11 +57,18 @@ pub fn take_apart(w: u32) -> Word
     }
 }
 
+// The byte that says a word's kind, whether a kind has it or not.
+pub fn kind_byte(w: u32) -> u32
+    ensures { result ≡ kind_of w }
+{
+    w / 16777216
+}
+
 // A word's kind alone.
 pub fn kind_of(w: u32) -> Option<Kind>
     ensures { IsKind (kind_of w) result }
 {
-    match w / 16777216 {
+    match kind_byte(w) {
         0 => Some(Kind::Meta),
         1 => Some(Kind::System),
         2 => Some(Kind::Tempo),
@@ -84,7 +91,7 @@ pub fn kind_of(w: u32) -> Option<Kind>
 pub fn is_kind(w: u32, kind: Kind) -> bool
     ensures { result ≡ is_kind (kind_number kind) w }
 {
-    w / 16777216 == u32::from(kind)
+    kind_byte(w) == u32::from(kind)
 }
 
 // A word's bytes a and b alone.
@@ -138,14 +145,14 @@ pub fn well_formed(w: u32) -> bool
 pub fn is_on(w: u32) -> bool
     ensures { result ≡ is_on w }
 {
-    w / 16777216 == Kind::NoteOn as u32 && w % 256 != 0
+    kind_byte(w) == Kind::NoteOn as u32 && w % 256 != 0
 }
 
 // Whether the word is a note-off, or a note-on with velocity 0.
 pub fn is_off(w: u32) -> bool
     ensures { result ≡ is_off w }
 {
-    let kind = w / 16777216;
+    let kind = kind_byte(w);
     kind == Kind::NoteOff as u32 || kind == Kind::NoteOn as u32 && w % 256 == 0
 }
 
