@@ -3,11 +3,12 @@ use Prim.Native.Nat.{ℕ, ◌+◌, ◌-◌, ◌/◌, ◌%◌, ◌^◌, ◌≤◌
 use mathlib.Core.Bool.{Bool, true, false, ◌&&◌, and_assoc, and-true}
 use mathlib.Core.List.{List, [], ◌∷◌, map}
 use mathlib.Core.Logic.{inl, inr}
-use mathlib.Core.Path.{◌≡◌, sym, ap, ◌∙◌}
+use mathlib.Core.Path.{◌≡◌, refl, sym, ap, ◌∙◌}
 use native.Mathlib.Omega.{arith}
 use borrow.Author.Tests.{lt-ltb, le-ltb}
 use lib.Dec.{eqb, ltb}
 use lib.ListN.{length}
+use mir.Val.{bool_byte}
 use Rattle.rules.specs.Lists.{every, keep, last_or, flag}
 use Rattle.rules.specs.Bars.{Bar, bar_end, bars_in, last_bar_end}
 use Rattle.rules.specs.Grid.{sixteenth, is_off_grid, off_count}
@@ -127,6 +128,15 @@ module _ (p start q : ℕ) (e : q ≡ sixteenth p) where
   unfolding is_off_grid
   off_by h = rw (← e, lt-ltb (q / 4) (start % q) h)
 
-  pub on_by : start % q ≤ q / 4 → false ≡ is_off_grid p start
+  pub on_by : start % q ≤ q / 4 → ltb (q / 4) (start % q) ≡ is_off_grid p start
   unfolding is_off_grid
   on_by h = rw (← e, le-ltb (q / 4) (start % q) h)
+
+-- ---- a flag as a number
+pub byte_flag : (b : Bool) → bool_byte b ≡ flag b
+byte_flag true = refl
+byte_flag false = refl
+
+pub byte_one : (b : Bool) → bool_byte b ≤ 1
+byte_one true = omega arith
+byte_one false = omega arith

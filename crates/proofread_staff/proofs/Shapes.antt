@@ -1,12 +1,11 @@
 -- The test of malformed arrays, and the smallest written value, step by step.
 use Prim.Native.Nat.{ℕ, ◌+◌, ◌-◌, ◌*◌, ◌/◌, ◌%◌, ◌≤◌, ◌<◌}
-use mathlib.Core.Bool.{Bool, true, false, ◌&&◌, true≢false}
+use mathlib.Core.Bool.{Bool, true, false, true≢false}
 use mathlib.Core.List.{List}
-use mathlib.Core.Path.{◌≡◌, refl, sym, ap, ◌∙◌}
+use mathlib.Core.Path.{◌≡◌, sym, ap, ◌∙◌}
 use native.Mathlib.Numerals.{add-one}
 use native.Mathlib.Omega.{arith}
 use borrow.Author.Tests.{lt-ltb, le-ltb, eq-eqb, ne_eqb}
-use lib.Dec.{eqb}
 use lib.ListN.{length, get_or, take, drop, drop_of_length-le}
 use lib.Seq.{drop-cons, take_all}
 use Rattle.rules.specs.Lists.{every, sum}
@@ -82,13 +81,3 @@ module _ {bars : ℕ} {counts heads keys : List ℕ} where
           few = λ y. omega arith;
           small = λ y. omega arith;
         }
-
--- ---- one bar
-
-pub even_bar : (len u : ℕ) (b : Bool) → len % u ≡ 0 → b ≡ (b && eqb (len % u) 0)
-even_bar len u true h = sym (eq-eqb (len % u) 0 h)
-even_bar len u false h = refl
-
-pub odd_bar : (len u : ℕ) (b : Bool) → (len % u ≡ 0 → ⊥) → false ≡ (b && eqb (len % u) 0)
-odd_bar len u true h = sym (ne_eqb (len % u) 0 h)
-odd_bar len u false h = refl

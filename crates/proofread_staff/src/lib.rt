@@ -1,8 +1,7 @@
 // Section 8: the proof-reader. It goes by raw notes, their grid and the bars alone, and works out the grid, snapping and values by itself.
 #![tactic(auto)]
 
-ghost use Rattle.std.specs.Prelude.{◌*◌, ◌≤◌, ◌<◌, max, ◌≡◌, length};
-ghost use Rattle.rules.specs.Lists.{flag};
+ghost use Rattle.std.specs.Prelude.{◌*◌, ◌≤◌, ◌<◌, ◌≡◌, length};
 ghost use Rattle.rules.specs.Bars.{bars_in, most_bars, last_bar_end};
 ghost use Rattle.rules.specs.Grid.{is_off_grid, off_count, grid};
 ghost use Rattle.rules.specs.Values.{smallest};
@@ -32,32 +31,14 @@ pub enum Reading {
 
 // ---- the grid
 
-fn at_least_one(x: u64) -> u64
-    ensures { result ≡ max 1 x }
-{
-    if x == 0 { 1 } else { x }
-}
-
 // Whether a start is off the sixteenths.
 fn is_off(p: u64, start: u64) -> bool
     ensures { result ≡ is_off_grid p start }
 {
-    let q = at_least_one(p / 4);
+    let q = (p / 4).max(1);
     let t = q / 4;
     let offset = start % q;
-    if t < offset {
-        return offset < q - t;
-    }
-    false
-}
-
-fn off_flag(p: u64, start: u64) -> usize
-    ensures { (result ≡ flag (is_off_grid p start)) × (result ≤ 1) }
-{
-    if is_off(p, start) {
-        return 1;
-    }
-    0
+    t < offset && offset < q - t
 }
 
 // How many of the m notes start off the sixteenths.
@@ -66,10 +47,8 @@ fn count_off(work: &[u64], n: usize, m: usize, p: u64) -> usize
     ensures { (result ≡ off_count p (raws_at n m work.now)) × (result ≤ m) }
 {
     let mut offs = 0;
-    let mut i = 0;
-    while i < m {
-        offs += off_flag(p, work[n + i] / 128);
-        i += 1;
+    for i in 0..m {
+        offs += usize::from(is_off(p, work[n + i] / 128));
     }
     offs
 }
@@ -81,9 +60,9 @@ pub fn grid_of(work: &[u64], n: usize, m: usize, p: u64) -> u64
 {
     let offs = count_off(work, n, m, p);
     if m < offs * 10 {
-        return at_least_one(p / 8);
+        return (p / 8).max(1);
     }
-    at_least_one(p / 4)
+    (p / 4).max(1)
 }
 
 // ---- even pieces
@@ -94,13 +73,11 @@ fn smallest_value(p: u64) -> u64
     ensures { (result ≡ smallest p) × (0 < result) }
 {
     let mut u = p;
-    let mut k: u32 = 0;
-    while k < 4 {
+    for _ in 0..4u32 {
         if u % 2 != 0 {
             return u;
         }
         u /= 2;
-        k += 1;
     }
     u
 }
@@ -110,14 +87,11 @@ fn with_bar(x: Measured, len: u64, end: u64, u: u64) -> Measured
     requires { (0 < u) × (x.bars < most_bars) }
     ensures { result ≡ with_bar x len end u }
 {
-    let mut r = x;
-    r.bars = x.bars + 1;
-    r.end = end;
-    if len % u == 0 {
-        return r;
+    Measured {
+        bars: x.bars + 1,
+        end,
+        even: x.even && len % u == 0,
     }
-    r.even = false;
-    r
 }
 
 // Measures the bars.
@@ -131,7 +105,7 @@ fn measure(p: u64, deltas: &[u32], words: &[u32], end: u64, max_bars: usize, u: 
         end: 0,
         even: true,
     };
-    while x.bars < max_bars {
+    for _ in 0..max_bars {
         let next = walker.next_bar();
         x = with_bar(x, next.start - walker.start, next.start, u);
         if end <= next.start {
@@ -149,12 +123,10 @@ fn measure(p: u64, deltas: &[u32], words: &[u32], end: u64, max_bars: usize, u: 
 fn heads_mean(heads: &[u32]) -> bool
     ensures { result ≡ heads_mean? heads.now }
 {
-    let mut i = 0;
-    while i < heads.len() {
-        if 512 <= heads[i] {
+    for head in heads {
+        if 512 <= *head {
             return false;
         }
-        i += 1;
     }
     true
 }
@@ -202,14 +174,12 @@ fn read_staff(
         (read_staff (record { counts = counts.entry.now; heads = heads.now; keys = keys.now })) }
 {
     proofread_notes::clear_marks(work, n, m);
-    let mut v = 0;
-    while v < 4 {
+    for v in 0..4 {
         if !proofread_voices::read_voice(
             p, deltas, words, end, max_bars, counts, heads, keys, work, n, m, g, e, v,
         ) {
             return false;
         }
-        v += 1;
     }
     proofread_notes::all_found(work, n, m, g, e)
 }

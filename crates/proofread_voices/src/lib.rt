@@ -20,10 +20,8 @@ pub fn sum_counts(counts: &[u32], from: usize, n: usize) -> usize
     ensures { (result ≡ sum (take n (drop from counts.now))) × (result ≤ n * 4294967295) }
 {
     let mut total = 0;
-    let mut i = 0;
-    while i < n {
+    for i in 0..n {
         total += counts[from + i] as usize;
-        i += 1;
     }
     total
 }
@@ -148,9 +146,8 @@ pub fn read_voice(
 {
     let mut walker = bar_walk::first_bar(p, deltas, words);
     let mut voice = new_voice();
-    let mut bar = 0;
     let mut first = 0;
-    while bar < max_bars {
+    for bar in 0..max_bars {
         let next = walker.next_bar();
         let here = first + sum_counts(counts, 4 * bar, v);
         let count = counts[4 * bar + v] as usize;
@@ -174,7 +171,6 @@ pub fn read_voice(
             return false;
         }
         first += sum_counts(counts, 4 * bar, 4);
-        bar += 1;
         if end <= next.start {
             return end_voice(work, n, m, g, e, voice);
         }

@@ -5,8 +5,5 @@ use Rattle.laws.specs.Ladder.{halved}
 use Rattle.rules.specs.Values.{smallest}
 use Rattle.proofread_staff.proofs.smallest_value.Given as goal
 
-abbrev pub invariant-loop-k : goal.invariant-loop-k
-invariant-loop-k l = (halved (4 - l.k) l.u ≡ smallest l.p) × (0 < l.u)
-
-abbrev pub decreases-loop-k : goal.decreases-loop-k
-decreases-loop-k l = 4 - l.k
+abbrev pub invariant-loop : goal.invariant-loop
+invariant-loop l = (halved (4 - l.counter) l.u ≡ smallest l.p) × (0 < l.u)

@@ -20,31 +20,31 @@ pub next_bar-next-requires : goal.next_bar-next-requires
 next_bar-next-requires c = walking_sane c.loop-bar.invariant.walking c.requires.1.ticks
 
 pub overflow_mul-bar : goal.overflow_mul-bar
-overflow_mul-bar c = omega (arith, four_left c.loop-bar.invariant c.loop-bar-test.true, c.requires.3.few)
+overflow_mul-bar c = omega (arith, four_left c.loop-bar.invariant (omega arith), c.requires.3.few)
 
 pub sum_counts-requires : goal.sum_counts-requires
 sum_counts-requires c =
     let q = c.requires in
-    (omega (arith, four_left c.loop-bar.invariant c.loop-bar-test.true, q.2), q.3.few)
+    (omega (arith, four_left c.loop-bar.invariant (omega arith), q.2), q.3.few)
 
 -- the items up to this voice's lie in the arrays
 pub overflow_add-here : goal.overflow_add-here
 overflow_add-here c =
     let q = c.requires in
-    omega (arith, items_fit c.loop-bar.invariant c.loop-bar-test.true q.3 q.2, c.sum_counts.ensures.0, q.3.small)
+    omega (arith, items_fit c.loop-bar.invariant (omega arith) q.3 q.2, c.sum_counts.ensures.0, q.3.small)
 
 pub overflow_mul-count : goal.overflow_mul-count
-overflow_mul-count c = omega (arith, four_left c.loop-bar.invariant c.loop-bar-test.true, c.requires.3.few)
+overflow_mul-count c = omega (arith, four_left c.loop-bar.invariant (omega arith), c.requires.3.few)
 
 pub overflow_add-count : goal.overflow_add-count
-overflow_add-count c = omega (arith, four_left c.loop-bar.invariant c.loop-bar-test.true, c.requires.3.few, c.requires.2)
+overflow_add-count c = omega (arith, four_left c.loop-bar.invariant (omega arith), c.requires.3.few, c.requires.2)
 
 pub offset_bounds-counts-bar : goal.offset_bounds-counts-bar
-offset_bounds-counts-bar c = omega (arith, four_left c.loop-bar.invariant c.loop-bar-test.true, c.requires.3.few)
+offset_bounds-counts-bar c = omega (arith, four_left c.loop-bar.invariant (omega arith), c.requires.3.few)
 
 pub bounds-counts-bar : goal.bounds-counts-bar
 bounds-counts-bar c =
-    omega (arith, four_left c.loop-bar.invariant c.loop-bar-test.true, c.requires.2)
+    omega (arith, four_left c.loop-bar.invariant (omega arith), c.requires.2)
 
 pub overflow_cast-count : goal.overflow_cast-count
 overflow_cast-count c =
@@ -63,7 +63,7 @@ read_bar-voice-requires c =
       omega (arith, i.walking.start),
       omega (arith, ap (λ (w : Walker). w.start) c.next_bar-next.ensures),
       omega (arith, c.type_inv.counts (4 * c.loop-bar.bar + c.args.v)),
-      omega (arith, items_fit i c.loop-bar-test.true q.3 q.2, c.sum_counts.ensures.0),
+      omega (arith, items_fit i (omega arith) q.3 q.2, c.sum_counts.ensures.0),
       omega (arith, q.3.heads_fit, q.3.keys_fit),
     )
 
@@ -74,34 +74,30 @@ shape_of-work-then-not-voice c =
 pub returns-then-not-voice : goal.returns-then-not-voice
 returns-then-not-voice c =
     let q = c.requires in
-    along_fails c.loop-bar.invariant c.loop-bar-test.true q.0.room q.2
+    along_fails c.loop-bar.invariant (omega arith) q.0.room q.2
     (rw (c.next_bar-next.ensures, c.sum_counts.ensures.0) at c.read_bar-voice.ensures)
     (not-true c.read_bar-voice.result.ok c.if-not-voice.true)
 
 pub overflow_mul-bar-in-loop-bar : goal.overflow_mul-bar-in-loop-bar
 overflow_mul-bar-in-loop-bar c =
-    omega (arith, four_left c.loop-bar.invariant c.loop-bar-test.true, c.requires.3.few)
+    omega (arith, four_left c.loop-bar.invariant (omega arith), c.requires.3.few)
 
 pub sum_counts-first-requires : goal.sum_counts-first-requires
 sum_counts-first-requires c =
-    (four_left c.loop-bar.invariant c.loop-bar-test.true, c.requires.3.few)
+    (four_left c.loop-bar.invariant (omega arith), c.requires.3.few)
 
 -- the bar's items lie in the arrays
 pub overflow_add-first : goal.overflow_add-first
 overflow_add-first c =
     let q = c.requires in
-    omega (arith, four_fit c.loop-bar.invariant c.loop-bar-test.true q.3, c.sum_counts-first.ensures.0, q.3.small)
-
-pub overflow_add-bar : goal.overflow_add-bar
-overflow_add-bar c =
-    omega (arith, four_left c.loop-bar.invariant c.loop-bar-test.true, c.requires.3.few)
+    omega (arith, four_fit c.loop-bar.invariant (omega arith) q.3, c.sum_counts-first.ensures.0, q.3.small)
 
 -- behind the last bar
 pub end_voice-requires : goal.end_voice-requires
 end_voice-requires c =
     let q = c.requires in
     let past =
-    along_last c.loop-bar.invariant c.loop-bar-test.true q.0.room q.2
+    along_last c.loop-bar.invariant (omega arith) q.0.room q.2
     (rw (c.next_bar-next.ensures, c.sum_counts.ensures.0) at c.read_bar-voice.ensures)
     (not-false c.read_bar-voice.result.ok c.if-not-voice.false)
     (rw c.next_bar-next.ensures at c.if-end-next.true) in
@@ -115,7 +111,7 @@ pub returns-then-end-next : goal.returns-then-end-next
 returns-then-end-next c =
     let q = c.requires in
     voice_ends q.0.room
-    (along_last c.loop-bar.invariant c.loop-bar-test.true q.0.room q.2
+    (along_last c.loop-bar.invariant (omega arith) q.0.room q.2
     (rw (c.next_bar-next.ensures, c.sum_counts.ensures.0) at c.read_bar-voice.ensures)
     (not-false c.read_bar-voice.result.ok c.if-not-voice.false)
     (rw c.next_bar-next.ensures at c.if-end-next.true))
@@ -127,15 +123,11 @@ take_changes-walker-requires c =
     rw c.next_bar-next.ensures
     (walking_ready c.loop-bar.invariant.walking q.1.track _ q.1.end_fits (rw c.next_bar-next.ensures at c.if-end-next.false))
 
-pub loop-bar-smaller : goal.loop-bar-smaller
-loop-bar-smaller c =
-    omega (arith, c.loop-bar-test.true)
-
 pub loop-bar-preserved : goal.loop-bar-preserved
 loop-bar-preserved c =
     let q = c.requires in
     rw c.sum_counts-first.ensures.0
-    (along_more c.loop-bar.invariant c.loop-bar-test.true q.0.room q.2
+    (along_more c.loop-bar.invariant (omega arith) q.0.room q.2
     (rw (c.next_bar-next.ensures, c.sum_counts.ensures.0) at c.read_bar-voice.ensures)
     (not-false c.read_bar-voice.result.ok c.if-not-voice.false)
     q.1.end_fits
@@ -146,7 +138,7 @@ loop-bar-preserved c =
 pub end_voice-requires-2 : goal.end_voice-requires-2
 end_voice-requires-2 c =
     let i = c.loop-bar.invariant in
-    (readable_same i.area c.requires.0, past_paced (along_end i c.loop-bar-test.false), i.ok)
+    (readable_same i.area c.requires.0, past_paced (along_end i (omega arith)), i.ok)
 
 pub shape_of-work : goal.shape_of-work
 shape_of-work c =
@@ -154,4 +146,4 @@ shape_of-work c =
 
 pub returns : goal.returns
 returns c =
-    voice_ends c.requires.0.room (along_end c.loop-bar.invariant c.loop-bar-test.false) c.end_voice-2.ensures
+    voice_ends c.requires.0.room (along_end c.loop-bar.invariant (omega arith)) c.end_voice-2.ensures
