@@ -11,7 +11,7 @@ use lib.Seq.{length-take-le}
 use Rattle.rules.specs.Lists.{keep, sum}
 use Rattle.rules.specs.Piece.{Event}
 use Rattle.rules.specs.Automation.{automation_tick}
-use Rattle.laws.proofs.Order.{by_bool, by_lt}
+use Rattle.laws.proofs.Order.{by_bool}
 use Rattle.laws.proofs.Places.{no_elements}
 use Rattle.laws.proofs.Filling.{Filling, filling_count, filling_more, filling_end}
 use Rattle.track_events.specs.Track.{Track, events_of, left, tick_at}
@@ -73,16 +73,10 @@ module _ {ds ws : List ℕ} (track : Track ds ws) (x : Choice) {count : ℕ} (n 
         let all = all_length tick (chosen_of x (events_of ds ws)) n ticks₀ (omega (arith, room.ticks)) in
         omega (arith, filling_count midway.in_ticks, length-map (chosen_of x (left t i ds ws)) tick, room.counted)
 
-    -- before the end, an event is still to come
-    pub more_left : r < n + count → i < length ds
+    -- no event is left, so all are written
+    pub all_written : length ds ≤ i → n + count ≤ r
     unfolding keep
-    more_left h =
-        elim (by_lt i (length ds)) [
-          | inl k ↦ k
-          | inr k ↦
-              let none : r + 0 ≡ n + count = rw (left_none t i ds ws k) at to_come in
-              absurd (omega arith)
-        ]
+    all_written h = let none : r + 0 ≡ n + count = rw (left_none t i ds ws h) at to_come in omega arith
 
     -- the events to come at the event i
     module _ (h : i < length ds) where

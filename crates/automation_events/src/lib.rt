@@ -2,7 +2,7 @@
 #![tactic(auto)]
 
 ghost use Rattle.std.specs.Prelude.{◌<◌, true, ◌≡◌, length, set};
-ghost use Rattle.rules.specs.Lists.{flag, written};
+ghost use Rattle.rules.specs.Lists.{written};
 ghost use Rattle.rules.specs.Piece.{well_formed};
 ghost use Rattle.rules.specs.Automation.{automation_lists};
 ghost use Rattle.rules.specs.Refusals.{most_events};
@@ -12,7 +12,7 @@ ghost use Rattle.automation_events.specs.Kinds.{is_one, wanted, Counted, AtMost,
 ghost use Rattle.automation_events.specs.Writing.{choice_of, CanPut, Put, HasRoom, Collected, CanCollect};
 
 use automation_ticks::{AutomationTick, SourceTick};
-use basics::size;
+use track_events::is_kind;
 
 // The lists, in the order in which they are written.
 #[derive(Clone, Copy)]
@@ -27,12 +27,14 @@ pub enum Kind {
 fn is_one(kind: Kind, word: u32) -> bool
     ensures { result ≡ is_one kind word }
 {
-    let x = track_events::take_apart(word);
     match kind {
-        Kind::Bend => x.kind == 14,
-        Kind::Controller => x.kind == 11,
-        Kind::Program => x.kind == 12,
-        Kind::Pressure => x.kind == 10 || x.kind == 13,
+        Kind::Bend => is_kind(word, track_events::Kind::Bend),
+        Kind::Controller => is_kind(word, track_events::Kind::Controller),
+        Kind::Program => is_kind(word, track_events::Kind::Program),
+        Kind::Pressure => {
+            is_kind(word, track_events::Kind::KeyPressure)
+                || is_kind(word, track_events::Kind::ChannelPressure)
+        }
     }
 }
 
@@ -41,13 +43,7 @@ fn is_wanted(kind: Kind, word: u32, dropped: [bool; 16]) -> bool
     requires { well_formed word ≡ true }
     ensures { result ≡ wanted kind dropped word }
 {
-    if is_one(kind, word) {
-        let x = track_events::take_apart(word);
-        let channel = size(x.a);
-        !dropped[channel]
-    } else {
-        false
-    }
+    is_one(kind, word) && !dropped[track_events::byte_a(word) as usize]
 }
 
 // How many events each list has.
@@ -59,12 +55,6 @@ pub struct Counts {
     pub pressures: usize,
 }
 
-fn one(b: bool) -> usize
-    ensures { result ≡ flag b }
-{
-    if b { 1 } else { 0 }
-}
-
 impl Counts {
     // One word more.
     fn count(self, word: u32, dropped: [bool; 16]) -> Self
@@ -72,10 +62,10 @@ impl Counts {
         ensures { Counted self dropped word result }
     {
         Counts {
-            bends: self.bends + one(is_wanted(Kind::Bend, word, dropped)),
-            controllers: self.controllers + one(is_wanted(Kind::Controller, word, dropped)),
-            programs: self.programs + one(is_wanted(Kind::Program, word, dropped)),
-            pressures: self.pressures + one(is_wanted(Kind::Pressure, word, dropped)),
+            bends: self.bends + usize::from(is_wanted(Kind::Bend, word, dropped)),
+            controllers: self.controllers + usize::from(is_wanted(Kind::Controller, word, dropped)),
+            programs: self.programs + usize::from(is_wanted(Kind::Program, word, dropped)),
+            pressures: self.pressures + usize::from(is_wanted(Kind::Pressure, word, dropped)),
         }
     }
 }
@@ -91,10 +81,8 @@ pub fn count_automation(deltas: &[u32], words: &[u32], dropped: [bool; 16]) -> C
         programs: 0,
         pressures: 0,
     };
-    let mut i = 0;
-    while i < deltas.len() {
-        counts = counts.count(words[i], dropped);
-        i += 1;
+    for word in words {
+        counts = counts.count(*word, dropped);
     }
     counts
 }
@@ -166,11 +154,12 @@ fn collect_kind(
     let end = n + count;
     let mut next = n;
     let mut tick = SourceTick(0);
-    let mut i = 0;
-    while next < end {
-        tick = tick.after(deltas[i]);
+    for (i, delta) in deltas.iter().enumerate() {
+        if next == end {
+            return next;
+        }
+        tick = tick.after(*delta);
         next = put_chosen(ticks, out, next, choice, tick, words[i]);
-        i += 1;
     }
     next
 }

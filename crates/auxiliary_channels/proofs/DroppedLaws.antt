@@ -1,13 +1,12 @@
 -- From the array of bases to the definition: a clash or a chained spare cancels all, and a spare is dropped where it mirrors the base that is held for it.
-use Prim.Native.Nat.{ℕ, ◌+◌, ◌≤◌, ◌<◌}
+use Prim.Native.Nat.{ℕ, ◌<◌}
 use mathlib.Core.Bool.{Bool, true, false, not, ◌&&◌, true≢false, and-eq-true_iff}
 use mathlib.Core.List.{List}
 use mathlib.Core.Logic.{inl, inr}
 use mathlib.Core.Path.{◌≡◌, refl, sym, ap, ◌∙◌}
-use native.Mathlib.Omega.{arith}
 use borrow.Author.Tests.{lt-ltb, ltb-true, eq-eqb, ne_eqb}
 use lib.Dec.{eqb}
-use lib.ListN.{length, get_or, set, replicate, length-set, get_or-replicate}
+use lib.ListN.{length, get_or, replicate, get_or-replicate}
 use Rattle.rules.specs.Lists.{any}
 use Rattle.rules.specs.Piece.{Event}
 use Rattle.rules.specs.Automation.{Marker, markers, cancelled, is_dropped, mirrors}
@@ -16,7 +15,6 @@ use Rattle.laws.proofs.Reflection.{says_not, says_below}
 use Rattle.auxiliary_channels.specs.declared.Pairs.{Pairs}
 use Rattle.auxiliary_channels.specs.Markers.{marker, is_spare, is_chained, none_chained, mirrors_at, Mirrors, Drops}
 use Rattle.laws.proofs.Tests.{any_member, any_never}
-use Rattle.laws.proofs.Places.{set_more}
 use Rattle.auxiliary_channels.proofs.MarkerLaws.{Held, Noted}
 
 -- ---- what is cancelled
@@ -116,17 +114,6 @@ module _ {ms : List Marker} {q : Pairs} (noted : Noted ms q) where
 pub record Mirroring (es : List Event) (bases : List ℕ) (r : List Bool) (n : ℕ) : Type 0 where
   pub size : length r ≡ 16
   pub at : (ch : ℕ) → ch < n → get_or r ch false ≡ mirrors_at es bases ch
-
-module _ (es : List Event) (bases : List ℕ) where
-  pub mirroring_start : Mirroring es bases (replicate 16 false) 0
-  mirroring_start = record { size = refl; at = λ ch h. absurd (omega arith) }
-
-  pub mirroring_more : {r : List Bool} (n : ℕ) → n < 16 → Mirroring es bases r n → Mirroring es bases (set r n (mirrors_at es bases n)) (n + 1)
-  mirroring_more {r} n h m =
-      record { size = length-set r n _ ∙ m.size; at = set_more (mirrors_at es bases) r n false (omega (arith, m.size)) m.at }
-
-  pub mirroring_end : {r : List Bool} {n : ℕ} → 16 ≤ n → Mirroring es bases r n → Mirrors es bases r
-  mirroring_end h m = record { at = λ ch g. m.at ch (omega arith) }
 
 -- ---- what is dropped
 

@@ -1,5 +1,4 @@
 -- After each list the outputs hold all events of the lists so far, and then what stood there.
-use mathlib.Core.Path.{◌∙◌}
 use Rattle.automation_events.specs.declared.Kind.TheVariants.{Bend, Controller, Program, Pressure}
 use Rattle.automation_events.proofs.StageLaws.{stage_start, stage_more, stage_room, stage_end, fits_bends}
 use Rattle.automation_events.proofs.StageLaws.{fits_controllers, fits_programs, fits_pressures}
@@ -34,20 +33,6 @@ collect_kind-requires c =
     let s₂ = stage_more can s₁ Controller c.new-controller.ensures c.collect_kind-n-2.ensures in
     let s₃ = stage_more can s₂ Program c.new-program.ensures c.collect_kind-n-3.ensures in
     (can.track, stage_room can s₃ Pressure c.new-pressure.ensures (fits_pressures can))
-
-pub shape_of-ticks : goal.shape_of-ticks
-shape_of-ticks c =
-    c.collect_kind.auto.ticks
-    ∙ c.collect_kind-n-3.auto.ticks
-    ∙ c.collect_kind-n-2.auto.ticks
-    ∙ c.collect_kind-n.auto.ticks
-
-pub shape_of-out : goal.shape_of-out
-shape_of-out c =
-    c.collect_kind.auto.out
-    ∙ c.collect_kind-n-3.auto.out
-    ∙ c.collect_kind-n-2.auto.out
-    ∙ c.collect_kind-n.auto.out
 
 pub returns : goal.returns
 returns c =

@@ -10,19 +10,19 @@ use Rattle.automation_events.specs.Kinds.{wanted, count_of, Counted}
 use Rattle.automation_events.proofs.Counts.count.Goals as goal
 
 pub overflow_add-result : goal.overflow_add-result
-overflow_add-result c = omega (arith, c.one.ensures, flag_small c.is_wanted.result, c.requires.1.each Bend)
+overflow_add-result c = omega (arith, c.from.ensures, flag_small c.is_wanted.result, c.requires.1.each Bend)
 
 pub overflow_add-result-2 : goal.overflow_add-result-2
 overflow_add-result-2 c =
-    omega (arith, c.one-2.ensures, flag_small c.is_wanted-2.result, c.requires.1.each Controller)
+    omega (arith, c.from-2.ensures, flag_small c.is_wanted-2.result, c.requires.1.each Controller)
 
 pub overflow_add-result-3 : goal.overflow_add-result-3
 overflow_add-result-3 c =
-    omega (arith, c.one-3.ensures, flag_small c.is_wanted-3.result, c.requires.1.each Program)
+    omega (arith, c.from-3.ensures, flag_small c.is_wanted-3.result, c.requires.1.each Program)
 
 pub overflow_add-result-4 : goal.overflow_add-result-4
 overflow_add-result-4 c =
-    omega (arith, c.one-4.ensures, flag_small c.is_wanted-4.result, c.requires.1.each Pressure)
+    omega (arith, c.from-4.ensures, flag_small c.is_wanted-4.result, c.requires.1.each Pressure)
 
 counted : {s r : Counts} {dropped : List Bool} {w : ℕ}
     → r.bends ≡ s.bends + flag (wanted Bend dropped w) → r.controllers ≡ s.controllers + flag (wanted Controller dropped w)
@@ -38,7 +38,7 @@ counted {s} {r} {dropped} {w} b c g p = record { each = each }
 
 pub returns : goal.returns
 returns c = counted
-    (rw (c.one.ensures, c.is_wanted.ensures))
-    (rw (c.one-2.ensures, c.is_wanted-2.ensures))
-    (rw (c.one-3.ensures, c.is_wanted-3.ensures))
-    (rw (c.one-4.ensures, c.is_wanted-4.ensures))
+    (rw (c.from.ensures, c.is_wanted.ensures))
+    (rw (c.from-2.ensures, c.is_wanted-2.ensures))
+    (rw (c.from-3.ensures, c.is_wanted-3.ensures))
+    (rw (c.from-4.ensures, c.is_wanted-4.ensures))
