@@ -18,7 +18,11 @@ use Rattle.laws.proofs.Lists.{All-left, All-right}
 use Rattle.laws.proofs.Refusals.{passes_append, passes_given, given_first, answers_refused, answers_given}
 use Rattle.staffs.proofs.PartSizes.{counts_used, heads_used, keys_used, leftovers_used}
 use Rattle.playback.proofs.Demand.{engraved_yes}
-use Rattle.agreement.specs.Together.{Together}
+use Rattle.std.specs.Prelude as std
+use Rattle.std.specs.Result.{result_ok}
+use Rattle.basics.specs.declared.Refusal as declared
+use Rattle.proofread.specs.Answers.{read_answer}
+use Rattle.agreement.specs.Together.{verdict_of, Together}
 use Rattle.agreement.specs.Demand.{used, used_leftovers}
 
 -- ---- refused or given
@@ -176,3 +180,12 @@ module _ (x : Piece) (k : ℕ) {counts₀ heads₀ keys₀ leftovers₀ work₀ 
               → Together x k counts₀ heads₀ keys₀ leftovers₀ work₀ (given (record { size = s; verdict = given b }))
               counts₁ heads₁ keys₁ leftovers₁ work₂
           read_told {b} e = told (given b) (e ∙ answered)
+
+      -- a refusal to read is dropped, since it can be 9 alone
+      pub read_both : (r : std.Result Bool declared.Refusal) {work₂ : List ℕ}
+          → ProofReadCalled as_it_is (proof_read_call x k (used s (record { counts = counts₁; heads = heads₁; keys = keys₁ })) (length work₁)) work₁ (read_answer r)
+          work₂
+          → Together x k counts₀ heads₀ keys₀ leftovers₀ work₀ (given (record { size = s; verdict = verdict_of (result_ok r) })) counts₁ heads₁ keys₁ leftovers₁
+          work₂
+      read_both (std.Err e) read = read_uneven read refl
+      read_both (std.Ok b) read = read_told read refl

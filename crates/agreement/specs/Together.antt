@@ -5,18 +5,27 @@ use Rattle.rules.specs.Piece.{Piece}
 use Rattle.rules.specs.Refusals.{Result, refused, given, unless, answers, writes, uneven_part}
 use Rattle.rules.specs.Calls.{StaffSize, part_size, part_even, EngravedLists, engrave_call}
 use Rattle.engraver.specs.Sizes.{size_of}
-use Rattle.agreement.specs.declared.BothAnswer as both
+use Rattle.std.specs.Prelude as std
+use Rattle.basics.specs.declared.Refusal.{Refusal}
+use Rattle.basics.specs.Refusals.{told_by}
+use Rattle.agreement.specs.declared.Both.{Both}
 
 -- a staff that was engraved: its size, and the proof-reader's yes or no, or its number
 pub record Checked : Type 0 where
   pub size : StaffSize
   pub verdict : Result Bool
 
--- document 01's number and values for each case: engraving's number, number 9 of an uneven part, or yes or no
-abbrev pub both_answer : both.BothAnswer → Result Checked
-both_answer (both.TheVariants.Refused n) = refused n
-both_answer (both.TheVariants.Uneven s) = given (record { size = size_of s; verdict = refused 9 })
-both_answer (both.TheVariants.Read s b) = given (record { size = size_of s; verdict = given b })
+-- number 9 of an uneven part, or yes or no
+abbrev pub verdict_of : std.Option Bool → Result Bool
+verdict_of std.None = refused 9
+verdict_of (std.Some b) = given b
+
+abbrev pub checked_of : Both → Checked
+checked_of r = record { size = size_of r.size; verdict = verdict_of r.right }
+
+-- document 01's number and values for each case: engraving's number, or the size with the proof-reader's answer
+abbrev pub both_answer : std.Result Both Refusal → Result Checked
+both_answer r = told_by checked_of r
 
 -- Engraving's number where it is refused, 1 to 8. Else the staff's size, with 9 for an uneven part and yes for an even one: there is no other answer.
 abbrev pub together_call : Piece → ℕ → ℕ → ℕ → ℕ → ℕ → ℕ → Result Checked

@@ -4,21 +4,18 @@
 ghost use Rattle.rules.specs.Piece.{piece};
 ghost use Rattle.agreement.specs.Together.{both_answer, Together};
 
+use basics::Refusal;
 use engraver::Size;
-use proofread::ReadAnswer;
-use staffs::StaffAnswer;
 
-// What happened: engraving was refused, with its number; the staff was engraved and not read, since the part is uneven; it was engraved and
-// read, and this is the verdict.
+// An engraved staff: its size, and the proof-reader's verdict; none where the part is uneven, and the staff was not read.
 #[derive(Clone, Copy)]
-pub enum BothAnswer {
-    Refused(u32),
-    Uneven(Size),
-    Read(Size, bool),
+pub struct Both {
+    pub size: Size,
+    pub right: Option<bool>,
 }
 
 // Engraves a part into the lent arrays and hands exactly the used part of the staff's three to the proof-reader. A refused engraving leaves them
-// unchanged; in the other two cases they hold the staff and its leftovers.
+// unchanged; else they hold the staff and its leftovers.
 pub fn engrave_and_read(
     sizes: &[u32],
     deltas: &[u32],
@@ -29,32 +26,29 @@ pub fn engrave_and_read(
     keys: &mut [u64],
     leftovers: &mut [u32],
     work: &mut [u64],
-) -> BothAnswer
+) -> Result<Both, Refusal>
     ensures { Together (piece sizes.now deltas.now words.now) part
         counts.old heads.old keys.old leftovers.old work.old
         (both_answer result) counts.new heads.new keys.new leftovers.new work.new }
 {
-    match staffs::engrave(
+    let size = staffs::engrave(
         sizes, deltas, words, part, counts, heads, keys, leftovers, work,
-    ) {
-        StaffAnswer::Refused(number) => BothAnswer::Refused(number),
-        StaffAnswer::Given(size) => {
-            let c = 4 * size.bars;
-            let h = size.items;
-            let k = 2 * size.items;
-            match proofread::proof_read(
-                sizes,
-                deltas,
-                words,
-                part,
-                &counts[..c],
-                &heads[..h],
-                &keys[..k],
-                work,
-            ) {
-                ReadAnswer::Refused(_) => BothAnswer::Uneven(size),
-                ReadAnswer::Given(yes) => BothAnswer::Read(size, yes),
-            }
-        }
-    }
+    )?;
+    let c = 4 * size.bars;
+    let h = size.items;
+    let k = 2 * size.items;
+    let read = proofread::proof_read(
+        sizes,
+        deltas,
+        words,
+        part,
+        &counts[..c],
+        &heads[..h],
+        &keys[..k],
+        work,
+    );
+    Ok(Both {
+        size,
+        right: read.ok(),
+    })
 }
