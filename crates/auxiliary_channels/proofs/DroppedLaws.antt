@@ -1,21 +1,27 @@
 -- From the array of bases to the definition: a clash or a chained spare cancels all, and a spare is dropped where it mirrors the base that is held for it.
 use Prim.Native.Nat.{ℕ, ◌<◌}
-use mathlib.Core.Bool.{Bool, true, false, not, ◌&&◌, true≢false, and-eq-true_iff}
+use mathlib.Core.Bool.{Bool, true, false, not, ◌&&◌, true≢false, false≢true}
 use mathlib.Core.List.{List}
 use mathlib.Core.Logic.{inl, inr}
 use mathlib.Core.Path.{◌≡◌, refl, sym, ap, ◌∙◌}
-use borrow.Author.Tests.{lt-ltb, ltb-true, eq-eqb, ne_eqb}
+use borrow.Author.Tests.{eq-eqb, ne_eqb}
 use lib.Dec.{eqb}
 use lib.ListN.{length, get_or, replicate, get_or-replicate}
+use Rattle.std.specs.Prelude.{Option, None, Some}
 use Rattle.rules.specs.Lists.{any}
 use Rattle.rules.specs.Piece.{Event}
 use Rattle.rules.specs.Automation.{Marker, markers, cancelled, is_dropped, mirrors}
 use Rattle.laws.proofs.Order.{by_bool, by_eq}
 use Rattle.laws.proofs.Reflection.{says_not, says_below}
 use Rattle.auxiliary_channels.specs.declared.Pairs.{Pairs}
-use Rattle.auxiliary_channels.specs.Markers.{marker, is_spare, is_chained, none_chained, mirrors_at, Mirrors, Drops}
+use Rattle.auxiliary_channels.specs.Markers.{marker, at_base, is_chained, none_chained, mirrors_at, Mirrors, Drops}
 use Rattle.laws.proofs.Tests.{any_member, any_never}
-use Rattle.auxiliary_channels.proofs.MarkerLaws.{Held, Noted}
+use Rattle.auxiliary_channels.proofs.MarkerLaws.{some_same, Held, Noted}
+
+-- the base that passes a test
+has_base : (f : ℕ → Bool) (o : Option ℕ) → at_base f o ≡ true → (b : ℕ) × (o ≡ Some b) × (f b ≡ true)
+has_base f None t = absurd (false≢true t)
+has_base f (Some b) t = (b, refl, t)
 
 -- ---- what is cancelled
 
@@ -42,23 +48,23 @@ module _ {ms : List Marker} {q : Pairs} (noted : Noted ms q) where
         apart m n h k =
             elim (by_eq m.spare n.spare) [
               | inl e ↦
-                  let same : m.base ≡ n.base = sym h.is ∙ ap (λ s. get_or q.bases s 0) e ∙ k.is in
+                  let same : m.base ≡ n.base = some_same (sym h.is ∙ ap (λ s. get_or q.bases s None) e ∙ k.is) in
                   rw (eq-eqb _ _ e, eq-eqb _ _ same)
               | inr ne ↦ rw (ne_eqb _ _ ne)
             ]
 
     -- a marker whose base is the spare of another: its spare is chained
     chained_of : {m n : Marker} → Held q.bases m → Held q.bases n → m.base ≡ n.spare → is_chained q.bases m.spare ≡ true
-    chained_of h k e =
-        let there = ap (λ s. get_or q.bases s 0) e ∙ k.is in
-        rw (h.is, lt-ltb _ _ h.base, there, lt-ltb _ _ k.base)
+    chained_of {m} {n} h k e =
+        let there : get_or q.bases m.base None ≡ Some n.base = ap (λ s. get_or q.bases s None) e ∙ k.is in
+        rw (h.is, there)
 
     -- and the other way round
     of_chained : (s : ℕ) → s < 16 → is_chained q.bases s ≡ true → base_is_spare ms ≡ true
     of_chained s h t =
-        let (a, b) = (and-eq-true_iff _ _).0 t in
-        let base : get_or q.bases s 0 < 16 = ltb-true _ _ a in
-        any_member _ (any_member _ (eq-eqb (get_or q.bases s 0) _ refl) (noted.marked (get_or q.bases s 0) base (ltb-true _ _ b))) (noted.marked s h base)
+        let (b, is, spare) = has_base _ _ t in
+        let (a, there, _) = has_base _ _ spare in
+        any_member _ (any_member _ (eq-eqb b b refl) (noted.marked b a (noted.channels.below s b h is) there)) (noted.marked s b h is)
 
     base_spare : base_is_spare ms ≡ not (none_chained q.bases)
     base_spare =
@@ -89,21 +95,21 @@ module _ {ms : List Marker} {q : Pairs} (noted : Noted ms q) where
 
     -- a test of the markers of a spare is the test of the one marker that is held
     held_only : (f : Marker → Bool) (ch : ℕ) → ch < 16
-        → any (λ (m : Marker). eqb m.spare ch && f m) ms ≡ (is_spare q.bases ch && f (marker (get_or q.bases ch 0) ch))
+        → any (λ (m : Marker). eqb m.spare ch && f m) ms ≡ at_base (λ b. f (marker b ch)) (get_or q.bases ch None)
     held_only f ch h =
-        elim (by_bool (is_spare q.bases ch && f (marker (get_or q.bases ch 0) ch))) [
+        elim (by_bool (at_base (λ b. f (marker b ch)) (get_or q.bases ch None))) [
           | inl t ↦
-              let (a, b) = (and-eq-true_iff _ _).0 t in
-              rw t (any_member _ (rw (eq-eqb ch ch refl) b) (noted.marked ch h (ltb-true _ _ a)))
+              let (b, is, passes) = has_base _ _ t in
+              rw t (any_member _ (rw (eq-eqb ch ch refl) passes) (noted.marked ch b h is))
           | inr u ↦ rw u (any_never _ ms (λ m i. other u m (noted.held clear m i)))
         ]
       where
-        other : is_spare q.bases ch && f (marker (get_or q.bases ch 0) ch) ≡ false → (m : Marker) → Held q.bases m → eqb m.spare ch && f m ≡ false
+        other : at_base (λ b. f (marker b ch)) (get_or q.bases ch None) ≡ false → (m : Marker) → Held q.bases m → eqb m.spare ch && f m ≡ false
         other u m k =
             elim (by_eq m.spare ch) [
               | inl e ↦
-                  let v : is_spare q.bases m.spare && f (marker (get_or q.bases m.spare 0) m.spare) ≡ false = (rw e u) in
-                  let fails : f m ≡ false = (rw (k.is, lt-ltb _ _ k.base) at v) in
+                  let v : at_base (λ b. f (marker b m.spare)) (get_or q.bases m.spare None) ≡ false = (rw e u) in
+                  let fails : f m ≡ false = (rw k.is at v) in
                   rw (eq-eqb _ _ e) fails
               | inr ne ↦ rw (ne_eqb _ _ ne)
             ]
@@ -111,7 +117,7 @@ module _ {ms : List Marker} {q : Pairs} (noted : Noted ms q) where
 -- ---- which spares mirror their base
 
 -- the channels below n are answered
-pub record Mirroring (es : List Event) (bases : List ℕ) (r : List Bool) (n : ℕ) : Type 0 where
+pub record Mirroring (es : List Event) (bases : List (Option ℕ)) (r : List Bool) (n : ℕ) : Type 0 where
   pub size : length r ≡ 16
   pub at : (ch : ℕ) → ch < n → get_or r ch false ≡ mirrors_at es bases ch
 

@@ -1,27 +1,28 @@
 -- The array of bases after the markers read so far: what it holds was marked, and unless there is a clash, every marker is held.
-use Prim.Native.Nat.{ℕ, suc, ◌+◌, ◌≤◌, ◌<◌}
+use Prim.Native.Nat.{ℕ, suc, ◌+◌, ◌<◌}
 use mathlib.Core.Bool.{true, false, true≢false, false≢true, and-eq-true_iff}
 use mathlib.Core.List.Memᴰ
 use mathlib.Core.List.{List, [], ◌∷◌, ◌++◌, map, foldl, append-nil, Memᴰ}
 use mathlib.Core.Logic.{inl, inr, ⊎_elim}
-use mathlib.Core.Path.{◌≡◌, refl, sym, ◌∙◌, subst}
+use mathlib.Core.Path.{◌≡◌, refl, sym, ap, ◌∙◌, subst}
 use native.Mathlib.Omega.{arith}
-use borrow.Author.Tests.{lt-ltb, le-ltb, leb-true, eq-eqb, ne_eqb}
+use borrow.Author.Tests.{leb-true, eq-eqb, ne_eqb}
 use lib.ListN.{length, get_or, set, length-set, get_or-replicate}
 use lib.Seq.{get_or-set_same, get_or-set_other, append_snoc}
+use Rattle.std.specs.Prelude.{Option, None, Some}
 use Rattle.rules.specs.Lists.{keep}
 use Rattle.rules.specs.Piece.{timed, byte_a, byte_b, is_kind}
 use Rattle.rules.specs.Automation.{Marker, counts?, markers}
-use Rattle.laws.proofs.Order.{by_bool, by_eq, by_lt}
+use Rattle.laws.proofs.Order.{by_bool, by_eq}
 use Rattle.track_events.specs.Track.{Track, events_of}
 use Rattle.auxiliary_channels.specs.declared.Pairs.{Pairs}
-use Rattle.auxiliary_channels.specs.Markers.{marker, no_pairs, added, taken, pairs_of}
+use Rattle.auxiliary_channels.specs.Markers.{marker, at_base, Channels, no_pairs, added_to, added, taken, pairs_of}
 
 -- a marker that the array holds
-pub record Held (bases : List ℕ) (m : Marker) : Type 0 where
+pub record Held (bases : List (Option ℕ)) (m : Marker) : Type 0 where
   pub spare : m.spare < 16
   pub base : m.base < 16
-  pub is : get_or bases m.spare 0 ≡ m.base
+  pub is : get_or bases m.spare None ≡ Some m.base
 
 -- two markers give one spare two bases
 pub record Two (ms : List Marker) (m n : Marker) : Type 0 where
@@ -32,15 +33,23 @@ pub record Two (ms : List Marker) (m n : Marker) : Type 0 where
 
 pub record Noted (ms : List Marker) (q : Pairs) : Type 0 where
   pub size : length q.bases ≡ 16
-  pub marked : (s : ℕ) → s < 16 → get_or q.bases s 0 < 16 → Memᴰ (marker (get_or q.bases s 0) s) ms
+  pub channels : Channels q.bases
+  pub marked : (s b : ℕ) → s < 16 → get_or q.bases s None ≡ Some b → Memᴰ (marker b s) ms
   pub held : q.clash ≡ false → (m : Marker) → Memᴰ m ms → Held q.bases m
   pub two : q.clash ≡ true → (m : Marker) × (n : Marker) × Two ms m n
+
+none_some : {b : ℕ} → ◌≡◌ {A = Option ℕ} None (Some b) → ⊥
+none_some e = false≢true (ap (at_base (λ b. true)) e)
+
+pub some_same : {a b : ℕ} → Some a ≡ Some b → a ≡ b
+some_same {a} e = ap (λ (o : Option ℕ). elim o [ None ↦ a | Some x ↦ x ]) e
 
 noted_none : Noted [] no_pairs
 noted_none =
     record {
       size = refl;
-      marked = λ s h l. absurd (let e : get_or no_pairs.bases s 0 ≡ 16 = get_or-replicate 16 s 16 0 h in omega arith);
+      channels = record { below = λ s b h e. absurd (none_some (sym (get_or-replicate 16 s None None h) ∙ e)) };
+      marked = λ s b h e. absurd (none_some (sym (get_or-replicate 16 s None None h) ∙ e));
       held = λ e m i. absurd (Memᴰ.not-nil i);
       two = λ e. absurd (false≢true e);
     }
@@ -62,67 +71,72 @@ module _ {ms : List Marker} {q : Pairs} (b s : ℕ) (hb : b < 16) (hs : s < 16) 
       (m, n, record { first = Memᴰ.append_left _ t.first; second = Memᴰ.append_left _ t.second; spare = t.spare; bases = t.bases })
 
   -- every marker is held if the old ones and the new one are
-  held_more : (bases : List ℕ) → ((m : Marker) → Memᴰ m ms → Held bases m) → Held bases (marker b s) → (m : Marker) → Memᴰ m more → Held bases m
+  held_more : (bases : List (Option ℕ)) → ((m : Marker) → Memᴰ m ms → Held bases m) → Held bases (marker b s) → (m : Marker) → Memᴰ m more → Held bases m
   unfolding more
   held_more bases old here m i =
       ⊎_elim (λ j. old m j) (λ j. subst (Held bases) (sym (Memᴰ.eq_of_singleton j)) here) (Memᴰ.append_cases ms i)
 
-  noted_same : get_or q.bases s 0 ≡ b → Noted more q
+  noted_same : get_or q.bases s None ≡ Some b → Noted more q
   unfolding more
   noted_same e =
       record {
         size = noted.size;
-        marked = λ t h l. Memᴰ.append_left _ (noted.marked t h l);
+        channels = noted.channels;
+        marked = λ t d h l. Memᴰ.append_left _ (noted.marked t d h l);
         held = λ c. held_more q.bases (noted.held c) (record { spare = hs; base = hb; is = e });
         two = two_more;
       }
 
-  noted_clash : get_or q.bases s 0 < 16 → (get_or q.bases s 0 ≡ b → ⊥) → Noted more (record { bases = q.bases; clash = true })
+  noted_clash : {a : ℕ} → get_or q.bases s None ≡ Some a → (a ≡ b → ⊥) → Noted more (record { bases = q.bases; clash = true })
   unfolding more
-  noted_clash l ne =
+  noted_clash {a} l ne =
       record {
         size = noted.size;
-        marked = λ t h k. Memᴰ.append_left _ (noted.marked t h k);
+        channels = noted.channels;
+        marked = λ t d h k. Memᴰ.append_left _ (noted.marked t d h k);
         held = λ c. absurd (true≢false c);
         two =
             λ c. (
-              marker (get_or q.bases s 0) s,
+              marker a s,
               marker b s,
-              record { first = Memᴰ.append_left _ (noted.marked s hs l); second = new; spare = refl; bases = ne },
+              record { first = Memᴰ.append_left _ (noted.marked s a hs l); second = new; spare = refl; bases = ne },
             );
       }
 
-  noted_set : 16 ≤ get_or q.bases s 0 → Noted more (record { bases = set q.bases s b; clash = q.clash })
+  noted_set : get_or q.bases s None ≡ None → Noted more (record { bases = set q.bases s (Some b); clash = q.clash })
   unfolding more
   noted_set free =
-      let inside : s < length q.bases = omega (arith, noted.size) in
-      let at : get_or (set q.bases s b) s 0 ≡ b = get_or-set_same q.bases s b 0 inside in
       record {
-        size = length-set q.bases s b ∙ noted.size;
-        marked = λ t h l. elim (by_eq t s) [
-          | inl e ↦ rw (e, at) new
-          | inr ne ↦
-              let old : get_or (set q.bases s b) t 0 ≡ get_or q.bases t 0 = get_or-set_other q.bases s t b 0 ne in
-              rw old (Memᴰ.append_left _ (noted.marked t h (omega arith)))
+        size = length-set q.bases s (Some b) ∙ noted.size;
+        channels = record { below = λ t d h l. elim (by_eq t s) [ inl e ↦ rw (← some_same (sym (there t e) ∙ l)) hb | inr ne ↦ noted.channels.below t d h (sym (old t ne) ∙ l) ] };
+        marked = λ t d h l. elim (by_eq t s) [
+          | inl e ↦ rw (e, ← some_same (sym (there t e) ∙ l)) new
+          | inr ne ↦ Memᴰ.append_left _ (noted.marked t d h (sym (old t ne) ∙ l))
         ];
-        held = λ c. held_more (set q.bases s b) (λ m i.
+        held = λ c. held_more (set q.bases s (Some b)) (λ m i.
             let h = noted.held c m i in
-            let other : m.spare ≡ s → ⊥ = (λ e. let g : get_or q.bases s 0 ≡ m.base = (rw e at h.is) in omega (arith, h.base)) in
-            record { spare = h.spare; base = h.base; is = get_or-set_other q.bases s m.spare b 0 other ∙ h.is })
-            (record { spare = hs; base = hb; is = at });
+            let other : m.spare ≡ s → ⊥ = (λ e. none_some (sym free ∙ (rw e at h.is))) in
+            record { spare = h.spare; base = h.base; is = old m.spare other ∙ h.is })
+            (record { spare = hs; base = hb; is = there s refl });
         two = two_more;
       }
+    where
+      there : (t : ℕ) → t ≡ s → get_or (set q.bases s (Some b)) t None ≡ Some b
+      there t e = rw e (get_or-set_same q.bases s (Some b) None (omega (arith, noted.size)))
+
+      old : (t : ℕ) → (t ≡ s → ⊥) → get_or (set q.bases s (Some b)) t None ≡ get_or q.bases t None
+      old t ne = get_or-set_other q.bases s t (Some b) None ne
 
   noted_added : Noted more (added q b s)
-  noted_added =
-      elim (by_lt (get_or q.bases s 0) 16) [
-        | inl l ↦
-            elim (by_eq (get_or q.bases s 0) b) [
-              | inl e ↦ rw (lt-ltb _ _ l, eq-eqb _ _ e) (noted_same e)
-              | inr ne ↦ rw (lt-ltb _ _ l, ne_eqb _ _ ne) (noted_clash l ne)
-            ]
-        | inr free ↦ rw (le-ltb _ _ free) (noted_set free)
-      ]
+  noted_added = go (get_or q.bases s None) refl
+    where
+      go : (o : Option ℕ) → get_or q.bases s None ≡ o → Noted more (added_to o q b s)
+      go None e = noted_set e
+      go (Some a) e =
+          elim (by_eq a b) [
+            | inl same ↦ rw (eq-eqb _ _ same) (noted_same (e ∙ ap Some same))
+            | inr ne ↦ rw (ne_eqb _ _ ne) (noted_clash e ne)
+          ]
 
 -- ---- all markers
 

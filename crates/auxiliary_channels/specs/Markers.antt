@@ -1,5 +1,5 @@
 -- The markers of a track as an array: the base of each spare.
-use Rattle.std.specs.Prelude.{ℕ, ◌<◌, Bool, true, false, cond, not, ◌&&◌, ◌≡◌, eqb, ltb, get_or, set, replicate}
+use Rattle.std.specs.Prelude.{ℕ, ◌<◌, Bool, true, false, cond, not, ◌&&◌, ◌≡◌, eqb, get_or, set, replicate, Option, None, Some}
 use mathlib.Core.List.{List, foldl}
 use Rattle.rules.specs.Lists.{below}
 use Rattle.rules.specs.Piece.{Event, byte_a, byte_b, is_kind}
@@ -10,14 +10,24 @@ abbrev pub marker : ℕ → ℕ → Marker
 marker b s = record { base = b; spare = s }
 
 abbrev pub no_pairs : Pairs
-no_pairs = record { bases = replicate 16 16; clash = false }
+no_pairs = record { bases = replicate 16 None; clash = false }
+
+-- a channel has a base, and the base passes a test
+abbrev pub at_base : (ℕ → Bool) → Option ℕ → Bool
+at_base f None = false
+at_base f (Some b) = f b
+
+-- each base is a channel
+pub record Channels (bases : List (Option ℕ)) : Type 0 where
+  pub below : (s b : ℕ) → s < 16 → get_or bases s None ≡ Some b → b < 16
 
 -- a spare's first base is held; another base is a clash
+abbrev pub added_to : Option ℕ → Pairs → ℕ → ℕ → Pairs
+added_to None q b s = record { bases = set q.bases s (Some b); clash = q.clash }
+added_to (Some held) q b s = cond (eqb held b) q (record { bases = q.bases; clash = true })
+
 abbrev pub added : Pairs → ℕ → ℕ → Pairs
-added q b s =
-    cond (ltb (get_or q.bases s 0) 16)
-    (cond (eqb (get_or q.bases s 0) b) q (record { bases = q.bases; clash = true }))
-    (record { bases = set q.bases s b; clash = q.clash })
+added q b s = added_to (get_or q.bases s None) q b s
 
 -- a word that is no marker, or one that is skipped, changes nothing
 abbrev pub taken : Pairs → ℕ → Pairs
@@ -27,22 +37,22 @@ abbrev pub pairs_of : List ℕ → Pairs
 pairs_of ws = foldl taken no_pairs ws
 
 -- a channel is a spare
-abbrev pub is_spare : List ℕ → ℕ → Bool
-is_spare bases s = ltb (get_or bases s 0) 16
+abbrev pub is_spare : List (Option ℕ) → ℕ → Bool
+is_spare bases s = at_base (λ b. true) (get_or bases s None)
 
 -- a spare's base is a spare
-abbrev pub is_chained : List ℕ → ℕ → Bool
-is_chained bases s = is_spare bases s && is_spare bases (get_or bases s 0)
+abbrev pub is_chained : List (Option ℕ) → ℕ → Bool
+is_chained bases s = at_base (is_spare bases) (get_or bases s None)
 
-abbrev pub none_chained : List ℕ → Bool
+abbrev pub none_chained : List (Option ℕ) → Bool
 none_chained bases = below 16 (λ s. not (is_chained bases s))
 
 -- a channel is a spare that mirrors its base
-abbrev pub mirrors_at : List Event → List ℕ → ℕ → Bool
-mirrors_at es bases ch = is_spare bases ch && mirrors es (marker (get_or bases ch 0) ch)
+abbrev pub mirrors_at : List Event → List (Option ℕ) → ℕ → Bool
+mirrors_at es bases ch = at_base (λ b. mirrors es (marker b ch)) (get_or bases ch None)
 
 -- r says of each channel whether it is a spare that mirrors its base
-pub record Mirrors (es : List Event) (bases : List ℕ) (r : List Bool) : Type 0 where
+pub record Mirrors (es : List Event) (bases : List (Option ℕ)) (r : List Bool) : Type 0 where
   pub at : (ch : ℕ) → ch < 16 → get_or r ch false ≡ mirrors_at es bases ch
 
 -- r says of each channel whether its automation is dropped

@@ -1,12 +1,12 @@
 // Section 9: which channels of a part's track only mirror another, by its markers and its automation.
 #![tactic(auto)]
 
-ghost use Rattle.std.specs.Prelude.{◌<◌, ◌^◌, true, ◌&&◌, ◌≡◌, ltb, length};
+ghost use Rattle.std.specs.Prelude.{◌<◌, ◌^◌, true, ◌≡◌, length};
 ghost use Rattle.rules.specs.Lists.{keep};
 ghost use Rattle.rules.specs.Piece.{well_formed};
 ghost use Rattle.rules.specs.Automation.{is_automation_of, same_messages, counts?, mirrors};
 ghost use Rattle.track_events.specs.Track.{Track, events_of};
-ghost use Rattle.auxiliary_channels.specs.Markers.{marker, added, taken, pairs_of, is_chained, none_chained, Mirrors, Drops};
+ghost use Rattle.auxiliary_channels.specs.Markers.{marker, at_base, Channels, added, taken, pairs_of, is_chained, none_chained, Mirrors, Drops};
 ghost use Rattle.auxiliary_channels.specs.Mirror.{IsPlace, Behind, is_word_of, Next, same_bytes, Comparable, same_at};
 
 use automation_ticks::SourceTick;
@@ -14,10 +14,10 @@ use track_events::Kind;
 
 // ---- markers
 
-// The base of each spare channel, 16 where it is no spare, and whether a spare was given two bases.
+// The base of each spare channel, and whether a spare was given two bases.
 #[derive(Drop)]
 struct Pairs {
-    bases: [u32; 16],
+    bases: [Option<u32>; 16],
     clash: bool,
 }
 
@@ -34,15 +34,14 @@ impl Pairs {
         requires { spare < 16 }
         ensures { result ≡ added self base spare }
     {
-        let held = self.bases[spare];
-        if held < 16 {
-            if held == base {
-                return self;
-            }
-            self.clash = true;
+        let Some(held) = self.bases[spare] else {
+            self.bases[spare] = Some(base);
+            return self;
+        };
+        if held == base {
             return self;
         }
-        self.bases[spare] = base;
+        self.clash = true;
         self
     }
 
@@ -68,7 +67,7 @@ fn collect_markers(words: &[u32]) -> Pairs
     ensures { result ≡ pairs_of words.now }
 {
     let mut pairs = Pairs {
-        bases: [16; 16],
+        bases: [None; 16],
         clash: false,
     };
     for word in words {
@@ -78,16 +77,19 @@ fn collect_markers(words: &[u32]) -> Pairs
 }
 
 // Whether a channel is a spare whose base is a spare too.
-fn is_chained(bases: [u32; 16], spare: usize) -> bool
-    requires { spare < 16 }
+fn is_chained(bases: [Option<u32>; 16], spare: usize) -> bool
+    requires { Channels bases × (spare < 16) }
     ensures { result ≡ is_chained bases spare }
 {
-    let base = bases[spare];
-    base < 16 && bases[base as usize] < 16
+    let Some(base) = bases[spare] else {
+        return false;
+    };
+    bases[base as usize].is_some()
 }
 
 // Whether no base is a spare.
-fn none_chained(bases: [u32; 16]) -> bool
+fn none_chained(bases: [Option<u32>; 16]) -> bool
+    requires { Channels bases }
     ensures { result ≡ none_chained bases }
 {
     for spare in 0..16 {
@@ -205,16 +207,19 @@ fn mirrored_automation(deltas: &[u32], words: &[u32], base: u32, spare: u32) -> 
 
 // ---- dropped channels
 
-// Whether a channel is a spare, its base below 16, that mirrors its base.
-fn is_mirror(deltas: &[u32], words: &[u32], base: u32, spare: u32) -> bool
+// Whether a channel has a base, and mirrors it.
+fn is_mirror(deltas: &[u32], words: &[u32], base: Option<u32>, spare: u32) -> bool
     requires { Track deltas.now words.now }
-    ensures { result ≡ (ltb base 16 && mirrors (events_of deltas.now words.now) (marker base spare)) }
+    ensures { result ≡ at_base (λ b. mirrors (events_of deltas.now words.now) (marker b spare)) base }
 {
-    base < 16 && mirrored_automation(deltas, words, base, spare)
+    let Some(base) = base else {
+        return false;
+    };
+    mirrored_automation(deltas, words, base, spare)
 }
 
 // Which channels are spares that mirror their base.
-fn mirrored_channels(deltas: &[u32], words: &[u32], bases: [u32; 16]) -> [bool; 16]
+fn mirrored_channels(deltas: &[u32], words: &[u32], bases: [Option<u32>; 16]) -> [bool; 16]
     requires { Track deltas.now words.now }
     ensures { Mirrors (events_of deltas.now words.now) bases result }
 {

@@ -10,6 +10,11 @@ returns-then-pairs c =
     let noted = subst (Noted (markers _)) (sym c.collect_markers-pairs.ensures) (noted_track c.requires) in
     drops_clash noted c.if-pairs.true
 
+pub none_chained-requires : goal.none_chained-requires
+none_chained-requires c =
+    let noted = subst (Noted (markers _)) (sym c.collect_markers-pairs.ensures) (noted_track c.requires) in
+    noted.channels
+
 pub returns-then-none_chained : goal.returns-then-none_chained
 returns-then-none_chained c =
     let noted = subst (Noted (markers _)) (sym c.collect_markers-pairs.ensures) (noted_track c.requires) in
