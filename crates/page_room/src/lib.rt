@@ -7,11 +7,12 @@ ghost use Rattle.rules.specs.RawNotes.{parts as RawNotes·parts};
 ghost use Rattle.rules.specs.Refusals.{first_number, note_refusals, short_work};
 ghost use Rattle.rules.specs.Calls.{part_track};
 ghost use Rattle.laws.specs.Admitted.{Passes};
+ghost use Rattle.basics.specs.Refusals.{number_of};
 ghost use Rattle.pages.specs.Page.{many_items, room_for};
 
-use staffs::StaffAnswer;
+use basics::Refusal;
 
-// The number of a part that cannot be printed, by the work area or its items; else 0.
+// Refuses a part that cannot be printed, by the work area or its items.
 fn part_number(
     sizes: &[u32],
     deltas: &[u32],
@@ -19,20 +20,21 @@ fn part_number(
     part: u32,
     items: usize,
     work: &mut [u64],
-) -> u32
+) -> Result<(), Refusal>
     requires passes { Passes (note_refusals (piece sizes.now deltas.now words.now)) }
     requires part_in_bounds { part < length (RawNotes·parts (piece sizes.now deltas.now words.now)) }
-    ensures { result ≡ first_number (short_work (piece sizes.now deltas.now words.now) (length work.old)
+    ensures { number_of result ≡ first_number (short_work (piece sizes.now deltas.now words.now) (length work.old)
         ∷ many_items items (piece sizes.now deltas.now words.now)
         (part_track (piece sizes.now deltas.now words.now) part) ∷ []) }
 {
-    match staffs::staff_size(sizes, deltas, words, part, work) {
-        StaffAnswer::Refused(number) => number,
-        StaffAnswer::Given(size) => { if items < size.items { 8 } else { 0 } }
+    let size = staffs::staff_size(sizes, deltas, words, part, work)?;
+    if items < size.items {
+        return Err(Refusal::NoRoom);
     }
+    Ok(())
 }
 
-// The number of the first part that cannot be printed; else 0.
+// Refuses a piece for its first part that cannot be printed.
 pub fn parts_number(
     sizes: &[u32],
     deltas: &[u32],
@@ -40,19 +42,14 @@ pub fn parts_number(
     parts: u32,
     items: usize,
     work: &mut [u64],
-) -> u32
+) -> Result<(), Refusal>
     requires passes { Passes (note_refusals (piece sizes.now deltas.now words.now)) }
     requires parts_value { parts ≡ length (RawNotes·parts (piece sizes.now deltas.now words.now)) }
-    ensures { result ≡ first_number (room_for (record { items = items; work = length work.old })
+    ensures { number_of result ≡ first_number (room_for (record { items = items; work = length work.old })
         (piece sizes.now deltas.now words.now)) }
 {
-    let mut part = 0;
-    while part < parts {
-        let number = part_number(sizes, deltas, words, part, items, work);
-        if number != 0 {
-            return number;
-        }
-        part += 1;
+    for part in 0..parts {
+        part_number(sizes, deltas, words, part, items, work)?;
     }
-    0
+    Ok(())
 }

@@ -1,6 +1,6 @@
 -- `page_room::parts_number` asks the parts one after another. Invariant: what is left to ask has the number of all; behind the first part
--- the work area is known to be long enough. The measure is the parts that are left.
-use Prim.Native.Nat.{◌-◌, ◌<◌, ◌≤◌}
+-- the work area is known to be long enough.
+use Prim.Native.Nat.{◌<◌}
 use mathlib.Core.Bool.{false}
 use mathlib.Core.Path.{◌≡◌}
 use lib.ListN.{length}
@@ -11,9 +11,5 @@ use Rattle.page_room.proofs.parts_number.Given as goal
 
 abbrev pub invariant-loop-part : goal.invariant-loop-part
 invariant-loop-part l = (length l.work ≡ length l.initial.work)
-    × (l.part ≤ l.parts)
     × (first_number (asked_from (piece l.sizes l.deltas l.words) l.items (length l.initial.work) l.part) ≡ first_number (asked_from (piece l.sizes l.deltas l.words) l.items (length l.initial.work) 0))
     × (0 < l.part → (short_work (piece l.sizes l.deltas l.words) (length l.initial.work)).applies ≡ false)
-
-abbrev pub decreases-loop-part : goal.decreases-loop-part
-decreases-loop-part l = l.parts - l.part
