@@ -1,6 +1,6 @@
 -- The array of bases after the markers read so far: what it holds was marked, and unless there is a clash, every marker is held.
 use Prim.Native.Nat.{ℕ, suc, ◌+◌, ◌<◌}
-use mathlib.Core.Bool.{true, false, true≢false, false≢true, and-eq-true_iff}
+use mathlib.Core.Bool.{true, false≢true, and-eq-true_iff}
 use mathlib.Core.List.Memᴰ
 use mathlib.Core.List.{List, [], ◌∷◌, ◌++◌, map, foldl, append-nil, Memᴰ}
 use mathlib.Core.Logic.{inl, inr, ⊎_elim}
@@ -16,7 +16,7 @@ use Rattle.rules.specs.Automation.{Marker, counts?, markers}
 use Rattle.laws.proofs.Order.{by_bool, by_eq}
 use Rattle.track_events.specs.Track.{Track, events_of}
 use Rattle.auxiliary_channels.specs.declared.Pairs.{Pairs}
-use Rattle.auxiliary_channels.specs.Markers.{marker, at_base, Channels, no_pairs, added_to, added, taken, pairs_of}
+use Rattle.auxiliary_channels.specs.Markers.{marker, at_base, Channels, no_pairs, added_to, added, then_taken, pairs_of}
 
 -- a marker that the array holds
 pub record Held (bases : List (Option ℕ)) (m : Marker) : Type 0 where
@@ -35,8 +35,12 @@ pub record Noted (ms : List Marker) (q : Pairs) : Type 0 where
   pub size : length q.bases ≡ 16
   pub channels : Channels q.bases
   pub marked : (s b : ℕ) → s < 16 → get_or q.bases s None ≡ Some b → Memᴰ (marker b s) ms
-  pub held : q.clash ≡ false → (m : Marker) → Memᴰ m ms → Held q.bases m
-  pub two : q.clash ≡ true → (m : Marker) × (n : Marker) × Two ms m n
+  pub held : (m : Marker) → Memᴰ m ms → Held q.bases m
+
+-- what the answer says of the markers
+abbrev pub Known : List Marker → Option Pairs → Type 0
+Known ms None = (m : Marker) × (n : Marker) × Two ms m n
+Known ms (Some q) = Noted ms q
 
 none_some : {b : ℕ} → ◌≡◌ {A = Option ℕ} None (Some b) → ⊥
 none_some e = false≢true (ap (at_base (λ b. true)) e)
@@ -50,11 +54,15 @@ noted_none =
       size = refl;
       channels = record { below = λ s b h e. absurd (none_some (sym (get_or-replicate 16 s None None h) ∙ e)) };
       marked = λ s b h e. absurd (none_some (sym (get_or-replicate 16 s None None h) ∙ e));
-      held = λ e m i. absurd (Memᴰ.not-nil i);
-      two = λ e. absurd (false≢true e);
+      held = λ m i. absurd (Memᴰ.not-nil i);
     }
 
 -- ---- one marker more
+
+two_more : {ms : List Marker} (ns : List Marker) → Known ms None → Known (ms ++ ns) None
+two_more ns k =
+    let (m, n, t) = k in
+    (m, n, record { first = Memᴰ.append_left _ t.first; second = Memᴰ.append_left _ t.second; spare = t.spare; bases = t.bases })
 
 module _ {ms : List Marker} {q : Pairs} (b s : ℕ) (hb : b < 16) (hs : s < 16) (noted : Noted ms q) where
   more : List Marker
@@ -63,12 +71,6 @@ module _ {ms : List Marker} {q : Pairs} (b s : ℕ) (hb : b < 16) (hs : s < 16) 
   new : Memᴰ (marker b s) more
   unfolding more
   new = Memᴰ.append_right ms (Memᴰ.head refl)
-
-  two_more : q.clash ≡ true → (m : Marker) × (n : Marker) × Two more m n
-  unfolding more
-  two_more e =
-      let (m, n, t) = noted.two e in
-      (m, n, record { first = Memᴰ.append_left _ t.first; second = Memᴰ.append_left _ t.second; spare = t.spare; bases = t.bases })
 
   -- every marker is held if the old ones and the new one are
   held_more : (bases : List (Option ℕ)) → ((m : Marker) → Memᴰ m ms → Held bases m) → Held bases (marker b s) → (m : Marker) → Memᴰ m more → Held bases m
@@ -83,27 +85,18 @@ module _ {ms : List Marker} {q : Pairs} (b s : ℕ) (hb : b < 16) (hs : s < 16) 
         size = noted.size;
         channels = noted.channels;
         marked = λ t d h l. Memᴰ.append_left _ (noted.marked t d h l);
-        held = λ c. held_more q.bases (noted.held c) (record { spare = hs; base = hb; is = e });
-        two = two_more;
+        held = held_more q.bases noted.held (record { spare = hs; base = hb; is = e });
       }
 
-  noted_clash : {a : ℕ} → get_or q.bases s None ≡ Some a → (a ≡ b → ⊥) → Noted more (record { bases = q.bases; clash = true })
+  noted_clash : {a : ℕ} → get_or q.bases s None ≡ Some a → (a ≡ b → ⊥) → Known more None
   unfolding more
-  noted_clash {a} l ne =
-      record {
-        size = noted.size;
-        channels = noted.channels;
-        marked = λ t d h k. Memᴰ.append_left _ (noted.marked t d h k);
-        held = λ c. absurd (true≢false c);
-        two =
-            λ c. (
-              marker a s,
-              marker b s,
-              record { first = Memᴰ.append_left _ (noted.marked s a hs l); second = new; spare = refl; bases = ne },
-            );
-      }
+  noted_clash {a} l ne = (
+    marker a s,
+    marker b s,
+    record { first = Memᴰ.append_left _ (noted.marked s a hs l); second = new; spare = refl; bases = ne },
+  )
 
-  noted_set : get_or q.bases s None ≡ None → Noted more (record { bases = set q.bases s (Some b); clash = q.clash })
+  noted_set : get_or q.bases s None ≡ None → Noted more (record { bases = set q.bases s (Some b) })
   unfolding more
   noted_set free =
       record {
@@ -113,12 +106,11 @@ module _ {ms : List Marker} {q : Pairs} (b s : ℕ) (hb : b < 16) (hs : s < 16) 
           | inl e ↦ rw (e, ← some_same (sym (there t e) ∙ l)) new
           | inr ne ↦ Memᴰ.append_left _ (noted.marked t d h (sym (old t ne) ∙ l))
         ];
-        held = λ c. held_more (set q.bases s (Some b)) (λ m i.
-            let h = noted.held c m i in
+        held = held_more (set q.bases s (Some b)) (λ m i.
+            let h = noted.held m i in
             let other : m.spare ≡ s → ⊥ = (λ e. none_some (sym free ∙ (rw e at h.is))) in
             record { spare = h.spare; base = h.base; is = old m.spare other ∙ h.is })
             (record { spare = hs; base = hb; is = there s refl });
-        two = two_more;
       }
     where
       there : (t : ℕ) → t ≡ s → get_or (set q.bases s (Some b)) t None ≡ Some b
@@ -127,10 +119,10 @@ module _ {ms : List Marker} {q : Pairs} (b s : ℕ) (hb : b < 16) (hs : s < 16) 
       old : (t : ℕ) → (t ≡ s → ⊥) → get_or (set q.bases s (Some b)) t None ≡ get_or q.bases t None
       old t ne = get_or-set_other q.bases s t (Some b) None ne
 
-  noted_added : Noted more (added q b s)
+  noted_added : Known more (added q b s)
   noted_added = go (get_or q.bases s None) refl
     where
-      go : (o : Option ℕ) → get_or q.bases s None ≡ o → Noted more (added_to o q b s)
+      go : (o : Option ℕ) → get_or q.bases s None ≡ o → Known more (added_to o q b s)
       go None e = noted_set e
       go (Some a) e =
           elim (by_eq a b) [
@@ -159,25 +151,39 @@ markers_words n t (d ∷ ds) (w ∷ ws) e =
     elim (by_bool (is_kind 5 w)) [ inl k ↦ rw (k, rest) | inr k ↦ rw (k, rest) ]
 
 -- one word more, where what follows it is known for whatever was read before
-noted_word : (w : ℕ) (ws : List ℕ) → ((ms : List Marker) (q : Pairs) → Noted ms q → Noted (ms ++ markers_in ws) (foldl taken q ws))
-    → (ms : List Marker) (q : Pairs) → Noted ms q → Noted (ms ++ markers_in (w ∷ ws)) (foldl taken q (w ∷ ws))
+known_word : (w : ℕ) (ws : List ℕ) → ((ms : List Marker) (q : Option Pairs) → Known ms q → Known (ms ++ markers_in ws) (foldl then_taken q ws))
+    → (ms : List Marker) (q : Option Pairs) → Known ms q → Known (ms ++ markers_in (w ∷ ws)) (foldl then_taken q (w ∷ ws))
 unfolding keep more
-noted_word w ws rest ms q noted =
+known_word w ws rest ms None known =
     elim (by_bool (is_kind 5 w)) [
-      | inr k ↦ rw k (rest ms q noted)
+      | inr k ↦ rw k (rest ms None known)
       | inl k ↦
           elim (by_bool (counts? (marker (byte_a w) (byte_b w)))) [
-            | inr c ↦ rw (k, c) (rest ms q noted)
+            | inr c ↦ rw (k, c) (rest ms None known)
+            | inl c ↦ rw (k, c, ← append_snoc) (rest _ None (two_more _ known))
+          ]
+    ]
+known_word w ws rest ms (Some q) noted =
+    elim (by_bool (is_kind 5 w)) [
+      | inr k ↦ rw k (rest ms (Some q) noted)
+      | inl k ↦
+          elim (by_bool (counts? (marker (byte_a w) (byte_b w)))) [
+            | inr c ↦ rw (k, c) (rest ms (Some q) noted)
             | inl c ↦
                 let (hb, hs) = pair_below (byte_a w) (byte_b w) c in
                 rw (k, c, ← append_snoc) (rest _ _ (noted_added (byte_a w) (byte_b w) hb hs noted))
           ]
     ]
 
-noted_all : (ws : List ℕ) (ms : List Marker) (q : Pairs) → Noted ms q → Noted (ms ++ markers_in ws) (foldl taken q ws)
+known_all : (ws : List ℕ) (ms : List Marker) (q : Option Pairs) → Known ms q → Known (ms ++ markers_in ws) (foldl then_taken q ws)
 unfolding keep
-noted_all [] ms q noted = rw append-nil noted
-noted_all (w ∷ ws) ms q noted = noted_word w ws (noted_all ws) ms q noted
+known_all [] ms q known = rw append-nil known
+known_all (w ∷ ws) ms q known = known_word w ws (known_all ws) ms q known
 
-pub noted_track : {ds ws : List ℕ} → Track ds ws → Noted (markers (events_of ds ws)) (pairs_of ws)
-noted_track {ds} {ws} track = rw (markers_words 0 0 ds ws track.same) (noted_all ws [] no_pairs noted_none)
+pub known_track : {ds ws : List ℕ} → Track ds ws → Known (markers (events_of ds ws)) (pairs_of ws)
+known_track {ds} {ws} track = rw (markers_words 0 0 ds ws track.same) (known_all ws [] (Some no_pairs) noted_none)
+
+-- once there is no answer, none comes
+pub none_taken : (ws : List ℕ) → foldl then_taken None ws ≡ None
+none_taken [] = refl
+none_taken (w ∷ ws) = none_taken ws

@@ -10,7 +10,7 @@ abbrev pub marker : ℕ → ℕ → Marker
 marker b s = record { base = b; spare = s }
 
 abbrev pub no_pairs : Pairs
-no_pairs = record { bases = replicate 16 None; clash = false }
+no_pairs = record { bases = replicate 16 None }
 
 -- a channel has a base, and the base passes a test
 abbrev pub at_base : (ℕ → Bool) → Option ℕ → Bool
@@ -21,20 +21,25 @@ at_base f (Some b) = f b
 pub record Channels (bases : List (Option ℕ)) : Type 0 where
   pub below : (s b : ℕ) → s < 16 → get_or bases s None ≡ Some b → b < 16
 
--- a spare's first base is held; another base is a clash
-abbrev pub added_to : Option ℕ → Pairs → ℕ → ℕ → Pairs
-added_to None q b s = record { bases = set q.bases s (Some b); clash = q.clash }
-added_to (Some held) q b s = cond (eqb held b) q (record { bases = q.bases; clash = true })
+-- a spare's first base is held; with another there is no answer
+abbrev pub added_to : Option ℕ → Pairs → ℕ → ℕ → Option Pairs
+added_to None q b s = Some (record { bases = set q.bases s (Some b) })
+added_to (Some held) q b s = cond (eqb held b) (Some q) None
 
-abbrev pub added : Pairs → ℕ → ℕ → Pairs
+abbrev pub added : Pairs → ℕ → ℕ → Option Pairs
 added q b s = added_to (get_or q.bases s None) q b s
 
 -- a word that is no marker, or one that is skipped, changes nothing
-abbrev pub taken : Pairs → ℕ → Pairs
-taken q w = cond (is_kind 5 w && counts? (marker (byte_a w) (byte_b w))) (added q (byte_a w) (byte_b w)) q
+abbrev pub taken : Pairs → ℕ → Option Pairs
+taken q w = cond (is_kind 5 w && counts? (marker (byte_a w) (byte_b w))) (added q (byte_a w) (byte_b w)) (Some q)
 
-abbrev pub pairs_of : List ℕ → Pairs
-pairs_of ws = foldl taken no_pairs ws
+-- after two bases of one spare nothing is an answer
+abbrev pub then_taken : Option Pairs → ℕ → Option Pairs
+then_taken None w = None
+then_taken (Some q) w = taken q w
+
+abbrev pub pairs_of : List ℕ → Option Pairs
+pairs_of ws = foldl then_taken (Some no_pairs) ws
 
 -- a channel is a spare
 abbrev pub is_spare : List (Option ℕ) → ℕ → Bool

@@ -14,11 +14,10 @@ use track_events::Kind;
 
 // ---- markers
 
-// The base of each spare channel, and whether a spare was given two bases.
-#[derive(Drop)]
+// The base of each spare channel.
+#[derive(Clone, Copy)]
 struct Pairs {
     bases: [Option<u32>; 16],
-    clash: bool,
 }
 
 // Whether a marker counts: both are channels, and not the same one.
@@ -29,51 +28,47 @@ fn is_pair(base: u32, spare: u32) -> bool
 }
 
 impl Pairs {
-    // A spare's first base is held; another base is a clash.
-    fn add(mut self, base: u32, spare: usize) -> Self
+    // A spare's first base is held; None where it is given another.
+    fn add(mut self, base: u32, spare: usize) -> Option<Self>
         requires { spare < 16 }
         ensures { result ≡ added self base spare }
     {
         let Some(held) = self.bases[spare] else {
             self.bases[spare] = Some(base);
-            return self;
+            return Some(self);
         };
-        if held == base {
-            return self;
+        if held != base {
+            return None;
         }
-        self.clash = true;
-        self
+        Some(self)
     }
 
     // A word that is no marker, or one that does not count, changes nothing.
-    fn take_marker(self, word: u32) -> Self
+    fn take_marker(self, word: u32) -> Option<Self>
         ensures { result ≡ taken self word }
     {
         if !track_events::is_kind(word, Kind::Marker) {
-            return self;
+            return Some(self);
         }
         let base = track_events::byte_a(word);
         let spare = track_events::byte_b(word);
         if is_pair(base, spare) {
             self.add(base, spare as usize)
         } else {
-            self
+            Some(self)
         }
     }
 }
 
-// The pairs of a track's words.
-fn collect_markers(words: &[u32]) -> Pairs
+// The pairs of a track's words; None where a spare is given two bases.
+fn collect_markers(words: &[u32]) -> Option<Pairs>
     ensures { result ≡ pairs_of words.now }
 {
-    let mut pairs = Pairs {
-        bases: [None; 16],
-        clash: false,
-    };
+    let mut pairs = Pairs { bases: [None; 16] };
     for word in words {
-        pairs = pairs.take_marker(*word);
+        pairs = pairs.take_marker(*word)?;
     }
-    pairs
+    Some(pairs)
 }
 
 // Whether a channel is a spare whose base is a spare too.
@@ -235,10 +230,9 @@ pub fn recognized_auxiliary_channels(deltas: &[u32], words: &[u32]) -> [bool; 16
     requires { Track deltas.now words.now }
     ensures { Drops (events_of deltas.now words.now) result }
 {
-    let pairs = collect_markers(words);
-    if pairs.clash {
+    let Some(pairs) = collect_markers(words) else {
         return [false; 16];
-    }
+    };
     let bases = pairs.bases;
     if none_chained(bases) {
         mirrored_channels(deltas, words, bases)
