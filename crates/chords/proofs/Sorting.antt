@@ -72,6 +72,17 @@ module _ {n m g : ℕ} {w : List ℕ} (ready : Ready n m g w) where
         let q : get_or w' i 0 ≡ get_or w i 0 = s.notes i zero-le (omega arith) in
         record { start = p; end = q; start_small = omega arith; end_small = omega arith }
 
+    -- the snapped ticks are in range
+    pub snapped_start : snap g (get_or w' (n + i) 0 / 128) ≤ 2 ^ 47 + 32767
+    snapped_start =
+        let small = ready.small_grid in
+        omega (arith, words, snap_le g (get_or w' (n + i) 0 / 128))
+
+    pub snapped_end : snap g (get_or w' i 0 / 16) ≤ 2 ^ 47 + 32767
+    snapped_end =
+        let small = ready.small_grid in
+        omega (arith, words, snap_le g (get_or w' i 0 / 16))
+
     pub snapping_one : (a b : ℕ) → a ≡ snap g (get_or w' (n + i) 0 / 128) → b ≡ max (snap g (get_or w' i 0 / 16)) (a + g)
         → Snapping n m g (i + 1) w
         (set (set w' (4 * n + i) (a * 128 + (127 - get_or w' (n + i) 0 % 128))) (5 * n + i) (b * 16 + get_or w' i 0 % 16))

@@ -77,6 +77,7 @@ fn choose(starts: &[u64; 4], ends: &[u64; 4], start: u64) -> Choice
 // ---- placing
 
 // The number of the last chord of voice v.
+#[tactic(auto, using(crate::proofs::Cells::column_end))]
 fn last_of(work: &[u64], n: usize, lens: &[usize; 4], v: usize) -> usize
     requires { (v < 4) × (16 * n ≤ length work.now) × (0 < get_or lens.now v 0) × (get_or lens.now v 0 ≤ n) }
     ensures { result ≡ number_at n work.now v (get_or lens.now v 0 - 1) }
@@ -86,6 +87,7 @@ fn last_of(work: &[u64], n: usize, lens: &[usize; 4], v: usize) -> usize
 }
 
 // Chord k, from start to end, is the next of voice v.
+#[tactic(auto, using(crate::proofs::Cells::column_end))]
 fn push(
     work: &mut [u64],
     n: usize,

@@ -1,7 +1,6 @@
-use Prim.Native.Nat.{◌+◌, ◌/◌, ◌^◌, ◌≤◌}
 use native.Mathlib.Omega.{arith}
-use lib.ListN.{get_or, length-set}
-use Rattle.chords.proofs.Sorting.{snap_le, snapping_none, words, snapping_one, snapping_end}
+use lib.ListN.{length-set}
+use Rattle.chords.proofs.Sorting.{snapping_none, words, snapped_start, snapped_end, snapping_one, snapping_end}
 use Rattle.chords.proofs.snap_words.Goals as goal
 
 pub loop-i-init : goal.loop-i-init
@@ -14,36 +13,21 @@ pub snap-requires : goal.snap-requires
 snap-requires c = omega (arith, words c.requires c.loop-i.invariant (omega arith))
 
 pub overflow_add-start : goal.overflow_add-start
-overflow_add-start c =
-    let started : c.snap-start.result ≤ 2 ^ 47 + 32767 =
-    omega (arith, words c.requires c.loop-i.invariant (omega arith), snap_le c.args.g (get_or c.loop-i.work (c.args.n + c.loop-i.i) 0 / 128)) in
-    omega arith
+overflow_add-start c = omega (arith, snapped_start c.requires c.loop-i.invariant (omega arith))
 
 pub overflow_mul-work : goal.overflow_mul-work
-overflow_mul-work c =
-    let started : c.snap-start.result ≤ 2 ^ 47 + 32767 =
-    omega (arith, words c.requires c.loop-i.invariant (omega arith), snap_le c.args.g (get_or c.loop-i.work (c.args.n + c.loop-i.i) 0 / 128)) in
-    omega arith
+overflow_mul-work c = omega (arith, snapped_start c.requires c.loop-i.invariant (omega arith))
 
 pub overflow_add-work : goal.overflow_add-work
-overflow_add-work c =
-    let started : c.snap-start.result ≤ 2 ^ 47 + 32767 =
-    omega (arith, words c.requires c.loop-i.invariant (omega arith), snap_le c.args.g (get_or c.loop-i.work (c.args.n + c.loop-i.i) 0 / 128)) in
-    omega arith
+overflow_add-work c = omega (arith, snapped_start c.requires c.loop-i.invariant (omega arith))
 
 pub overflow_mul-work-in-loop-i-2 : goal.overflow_mul-work-in-loop-i-2
 overflow_mul-work-in-loop-i-2 c =
-    let started : c.snap-start.result ≤ 2 ^ 47 + 32767 =
-    omega (arith, words c.requires c.loop-i.invariant (omega arith), snap_le c.args.g (get_or c.loop-i.work (c.args.n + c.loop-i.i) 0 / 128)) in
-    let ended : c.max-end.result ≤ 2 ^ 47 + 98302 = omega (arith, words c.requires c.loop-i.invariant (omega arith), snap_le c.args.g (get_or c.loop-i.work c.loop-i.i 0 / 16)) in
-    omega arith
+    omega (arith, snapped_start c.requires c.loop-i.invariant (omega arith), snapped_end c.requires c.loop-i.invariant (omega arith))
 
 pub overflow_add-work-in-loop-i-2 : goal.overflow_add-work-in-loop-i-2
 overflow_add-work-in-loop-i-2 c =
-    let started : c.snap-start.result ≤ 2 ^ 47 + 32767 =
-    omega (arith, words c.requires c.loop-i.invariant (omega arith), snap_le c.args.g (get_or c.loop-i.work (c.args.n + c.loop-i.i) 0 / 128)) in
-    let ended : c.max-end.result ≤ 2 ^ 47 + 98302 = omega (arith, words c.requires c.loop-i.invariant (omega arith), snap_le c.args.g (get_or c.loop-i.work c.loop-i.i 0 / 16)) in
-    omega arith
+    omega (arith, snapped_start c.requires c.loop-i.invariant (omega arith), snapped_end c.requires c.loop-i.invariant (omega arith))
 
 pub bounds-work-n-in-loop-i-2 : goal.bounds-work-n-in-loop-i-2
 bounds-work-n-in-loop-i-2 c = simp length-set (omega arith)
