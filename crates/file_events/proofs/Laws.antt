@@ -2,7 +2,7 @@
 use Prim.Native.Nat.{ℕ, zero, suc, ◌+◌, ◌-◌, ◌*◌, ◌/◌, ◌≤◌, ◌<◌, ◌^◌}
 use mathlib.Core.Bool.{true, false, cond, false≢true}
 use mathlib.Core.List.{List, [], ◌∷◌}
-use mathlib.Core.Logic.{◌⊎◌, inl, inr, ⊎_elim}
+use mathlib.Core.Logic.{◌⊎◌, inl, ⊎_elim}
 use mathlib.Core.Option.{Option, none, some}
 use Rattle.std.proofs.lemmas.Bool.{ltb-true, ltb-false}
 use Rattle.std.specs.Prelude as std
@@ -202,7 +202,7 @@ module _ (bs : List ℕ) (at : ℕ) where
           good = sym (word_channel s x y low high (omega arith) (omega arith) one);
           ends = refl;
           running = refl;
-          status = inr k;
+          status = k;
           behind = record { rest = refl; ahead = ahead; within = within };
         }
 
@@ -282,7 +282,7 @@ module _ (bs : List ℕ) (at kind : ℕ) (byte : kind ≡ get_or bs at 256) wher
 
       pub meta_read : meta_fits kind (d.to - d.from) ≡ true → {w : ℕ} → w ≡ meta_word kind (take (d.to - d.from) (drop d.from bs))
           → Agrees (MessageIs bs at) (meta_message (drop at bs))
-          (some (record { word = w; good = well_formed w; ends = eqb kind 47; running = 0; next = d.to }))
+          (some (record { word = w; good = well_formed w; ends = eqb kind 47; running = None; next = d.to }))
       meta_read fit {w} word =
           found_by _ is h λ a e p.
           both_some _ (front (meta kind a.read) a.rest) (meta_by a e p ∙ rw fit)
@@ -291,7 +291,7 @@ module _ (bs : List ℕ) (at kind : ℕ) (byte : kind ≡ get_or bs at 256) wher
             good = refl;
             ends = refl;
             running = refl;
-            status = inl refl;
+            status = tt;
             behind = record { rest = p.behind.rest; ahead = omega (arith, p.behind.ahead); within = p.behind.within };
           })
 
@@ -303,12 +303,12 @@ module _ (bs : List ℕ) (s at : ℕ) where
 
   pub system_read : {d : Span} {r : std.Option Span} → r ≡ Some d → Agrees (SpanIs bs at) (sized (drop at bs)) (found r)
       → Agrees (MessageIs bs at) (system_message s (drop at bs))
-      (some (record { word = 16777216; good = true; ends = false; running = 0; next = d.to }))
+      (some (record { word = 16777216; good = true; ends = false; running = None; next = d.to }))
   unfolding system_message
   system_read is h =
       found_by _ is h λ a e p.
       both_some _ (front (system s a.read) a.rest) (rw e)
-      (record { word = refl; good = sym word_plain.1; ends = refl; running = refl; status = inl refl; behind = p.behind })
+      (record { word = refl; good = sym word_plain.1; ends = refl; running = refl; status = tt; behind = p.behind })
 
 -- ---- events behind their delta
 
@@ -317,9 +317,9 @@ module _ (bs : List ℕ) (running at s : ℕ) (byte : s ≡ get_or bs at 256) wh
   unfolding message
   under_none low stop = both_none _ (rw (drop_byte bs at (omega arith), ← byte) (rw (lt-ltb s 128 low, stop)))
 
-  pub under_status : s < 128 → (running ≡ 0 → ⊥) → message running (drop at bs) ≡ channel_message running (drop at bs)
+  pub under_status : s < 128 → ChannelStatus running → message running (drop at bs) ≡ channel_message running (drop at bs)
   unfolding message
-  under_status low held = rw (drop_byte bs at (omega arith), ← byte) (rw (lt-ltb s 128 low, ne_eqb running 0 held))
+  under_status low held = rw (drop_byte bs at (omega arith), ← byte) (rw (lt-ltb s 128 low, ne_eqb running 0 (λ e. omega (arith, held.least))))
 
   module _ (high : 128 ≤ s) where
     pub by_status : s < 240 → message running (drop at bs) ≡ channel_message s (drop (at + 1) bs)

@@ -1,5 +1,5 @@
 -- How what the program reads goes together with what the definition reads. bs is the whole track, and the definition reads from position `at` on.
-use Rattle.std.specs.Prelude.{ℕ, ◌-◌, ◌≤◌, ◌<◌, true, false, List, ◌⊎◌, ◌≡◌, length, take, drop, None, Some}
+use Rattle.std.specs.Prelude.{ℕ, ◌-◌, ◌≤◌, ◌<◌, true, false, List, ◌≡◌, length, take, drop, None, Some}
 use Rattle.std.specs.Prelude as std
 use Rattle.std.proofs.Math.Option.{Option, none, some}
 use Rattle.rules.specs.Piece.{well_formed}
@@ -48,18 +48,24 @@ pub record ChannelStatus (s : ℕ) : Type 0 where
   pub most : s < 0xf0
 
 -- a running status: none, or that of a channel message
-abbrev pub Status : ℕ → Type 0
-Status s = (s ≡ 0) ⊎ ChannelStatus s
+abbrev pub Status : std.Option ℕ → Type 0
+Status None = Unit {0}
+Status (Some s) = ChannelStatus s
+
+-- a running status as the definition writes it: 0 for none
+abbrev pub status_of : std.Option ℕ → ℕ
+status_of None = 0
+status_of (Some s) = s
 
 -- what is taken of a channel message
 abbrev pub channel_taken : ℕ → ℕ → ℕ → ℕ → Taken
-channel_taken s x y next = record { word = word_of (channel s x y); good = true; ends = false; running = s; next = next }
+channel_taken s x y next = record { word = word_of (channel s x y); good = true; ends = false; running = Some s; next = next }
 
 pub record MessageIs (bs : List ℕ) (at : ℕ) (m : Front Message) (t : Taken) : Type 0 where
   pub word : t.word ≡ word_of m.read
   pub good : t.good ≡ well_formed t.word
   pub ends : t.ends ≡ is_end m.read
-  pub running : t.running ≡ status_after m.read
+  pub running : status_of t.running ≡ status_after m.read
   pub status : Status t.running
   pub behind : Behind bs at m.rest t.next
 
@@ -71,7 +77,7 @@ pub record EventIs (bs : List ℕ) (at : ℕ) (e : Front Timed) (t : TimedEvent)
   pub word : t.event.word ≡ word_of e.read.message
   pub good : t.event.good ≡ well_formed t.event.word
   pub ends : t.event.ends ≡ is_end e.read.message
-  pub running : t.event.running ≡ status_after e.read.message
+  pub running : status_of t.event.running ≡ status_after e.read.message
   pub status : Status t.event.running
   pub behind : Behind bs at e.rest t.event.next
 

@@ -6,7 +6,7 @@ ghost use Rattle.rules.specs.Meanings.{is_marker};
 ghost use Rattle.rules.specs.Piece.{word};
 ghost use Rattle.rules.specs.File.{has_one_byte, meta_fits, meta_word, number, sized, channel_message, meta_message, system_message, message, timed_message};
 ghost use Rattle.laws.specs.Parsed.{Agrees};
-ghost use Rattle.file_events.specs.Events.{NumberIs, number_read, SpanIs, span_read, Status, ChannelStatus, channel_taken};
+ghost use Rattle.file_events.specs.Events.{NumberIs, number_read, SpanIs, span_read, Status, status_of, ChannelStatus, channel_taken};
 ghost use Rattle.file_events.specs.Events.{MessageIs, message_read, EventIs, event_read};
 
 use track_events::well_formed;
@@ -25,14 +25,14 @@ pub struct Span {
     pub to: usize,
 }
 
-// What is taken of an event: its word, whether that is in the table of kinds, whether it is an End of Track, the running status behind it (0: none), and
+// What is taken of an event: its word, whether that is in the table of kinds, whether it is an End of Track, the running status behind it, if any, and
 // where the bytes behind it start.
 #[derive(Clone, Copy)]
 pub struct Taken {
     pub word: u32,
     pub good: bool,
     pub ends: bool,
-    pub running: u32,
+    pub running: Option<u32>,
     pub next: usize,
 }
 
@@ -96,7 +96,7 @@ fn channel_taken(status: u32, x: u32, y: u32, next: usize) -> Taken
         word: status / 16 * 16777216 + status % 16 * 65536 + x * 256 + y,
         good: true,
         ends: false,
-        running: status,
+        running: Some(status),
         next,
     }
 }
@@ -197,7 +197,7 @@ fn meta_message(bytes: &[u8], at: usize) -> Option<Taken>
         word,
         good: well_formed(word),
         ends: kind == 47,
-        running: 0,
+        running: None,
         next: to,
     })
 }
@@ -208,7 +208,7 @@ fn system_message(bytes: &[u8], status: u32, at: usize) -> Option<Taken>
     ensures { Agrees (MessageIs bytes.now at) (system_message status (drop at bytes.now)) (message_read result) }
 {
     let span = read_data(bytes, at)?;
-    let running = 0;
+    let running = None;
     Some(Taken {
         word: 16777216,
         good: true,
@@ -220,16 +220,13 @@ fn system_message(bytes: &[u8], status: u32, at: usize) -> Option<Taken>
 
 // An event behind its delta. A first byte below 128 is data under the running status.
 #[tactic(auto, using(crate::proofs::Laws::system_first))]
-fn read_message(bytes: &[u8], running: u32, at: usize) -> Option<Taken>
+fn read_message(bytes: &[u8], running: Option<u32>, at: usize) -> Option<Taken>
     requires { Status running × (at ≤ length bytes.now) }
-    ensures { Agrees (MessageIs bytes.now at) (message running (drop at bytes.now)) (message_read result) }
+    ensures { Agrees (MessageIs bytes.now at) (message (status_of running) (drop at bytes.now)) (message_read result) }
 {
     let s = u32::from(*bytes.get(at)?);
     if s < 128 {
-        if running == 0 {
-            return None;
-        }
-        return channel_message(bytes, running, at);
+        return channel_message(bytes, running?, at);
     }
     if s < 240 {
         return channel_message(bytes, s, at + 1);
@@ -247,9 +244,9 @@ fn read_message(bytes: &[u8], running: u32, at: usize) -> Option<Taken>
 }
 
 // An event with its delta.
-pub fn read_event(bytes: &[u8], running: u32, at: usize) -> Option<TimedEvent>
+pub fn read_event(bytes: &[u8], running: Option<u32>, at: usize) -> Option<TimedEvent>
     requires { Status running × (at ≤ length bytes.now) }
-    ensures { Agrees (EventIs bytes.now at) (timed_message running (drop at bytes.now)) (event_read result) }
+    ensures { Agrees (EventIs bytes.now at) (timed_message (status_of running) (drop at bytes.now)) (event_read result) }
 {
     let delta = read_number(bytes, at)?;
     let event = read_message(bytes, running, delta.next)?;

@@ -26,7 +26,7 @@ use Rattle.laws.proofs.FileSteps.{tracks_broken, tracks_header, tracks_track, tr
 use Rattle.laws.proofs.Order.{by_bool}
 use Rattle.laws.proofs.Parsed.{both_some, both_none}
 use Rattle.file_events.specs.declared.TimedEvent.{TimedEvent}
-use Rattle.file_events.specs.Events.{EventIs}
+use Rattle.file_events.specs.Events.{EventIs, status_of}
 use Rattle.file_tracks.specs.declared.Gathered.{Gathered}
 use Rattle.file_tracks.specs.declared.Chunk as place
 use Rattle.file_tracks.specs.Gathering.{gathered_read, Grown, fitted, stored, EventsHeld, TracksHeld, ChunkIs, chunk_tracks}
@@ -170,7 +170,7 @@ module _ (body : List ℕ) (es : List Timed) (g : Gathered) (running at : ℕ) (
       held_more : Held h d₁ w₁ (p.done ++ (e.read ∷ []))
       held_more = rw (append_assoc es p.done (e.read ∷ [])) at (put (es ++ p.done) p.held)
 
-      pub progress_more : t.event.ends ≡ false → Progress body es h t.event.running t.event.next ds ws d₁ w₁
+      pub progress_more : t.event.ends ≡ false → Progress body es h (status_of t.event.running) t.event.next ds ws d₁ w₁
       progress_more k =
           record {
             done = p.done ++ (e.read ∷ []);

@@ -73,7 +73,7 @@ fn read_track(
         → Agrees (λ t g. EventsHeld (es ++ t) g ds ws deltas.new words.new) (track_of body.now) (gathered_read result) }
 {
     let mut g = gathered;
-    let mut running = 0;
+    let mut running = None;
     let mut at = 0;
     // Kept: where the next event starts is found on the way, so no range says it.
     while at < body.len() {

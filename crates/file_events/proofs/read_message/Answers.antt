@@ -1,8 +1,9 @@
 -- `read_message` goes by the first byte as the definition does: each way out is a law.
-use mathlib.Core.Logic.{inr, ⊎_elim}
-use mathlib.Core.Path.{sym, ◌∙◌}
+use mathlib.Core.Logic.{inr}
+use mathlib.Core.Path.{refl, sym, ◌∙◌}
 use native.Mathlib.Omega.{arith}
 use Rattle.std.proofs.lemmas.Bool.{ltb-true}
+use Rattle.file_events.specs.Events.{ChannelStatus}
 use Rattle.file_events.proofs.Laws.{byte_there, no_byte, under_none, under_status, by_status, by_meta, by_system, by_none, from_status}
 use Rattle.file_events.proofs.read_message.Goals as goal
 
@@ -11,19 +12,21 @@ returns-in_err-get c =
     rw c.from_residual.ensures
     (by_none _ _ _ 256 (no_byte _ _ c.in_err-get.ensures.lookup.0) (omega arith) (omega arith) (λ e. omega arith) (λ e. omega arith) (λ e. omega arith))
 
-pub returns-then-running-eq0 : goal.returns-then-running-eq0
-returns-then-running-eq0 c =
+pub returns-in_err-running : goal.returns-in_err-running
+returns-in_err-running c =
     let byte = c.from-s.ensures ∙ byte_there _ _ c.in_ok-get.ensures.lookup.0 _ c.in_ok-get.ensures.lookup.1 in
-    under_none _ _ _ _ byte c.if-s-lt128.true c.if-running-eq0.true
+    rw (c.from_residual-in_err-running.ensures, c.in_err-running.was) (under_none _ _ _ _ byte c.if-s-lt128.true refl)
 
 pub channel_message-requires : goal.channel_message-requires
 channel_message-requires c =
-    (⊎_elim (λ z. absurd (c.if-running-eq0.false z)) (λ k. k) c.requires.0, c.requires.1)
+    let status : ChannelStatus c.in_ok-running.field-0 = rw c.in_ok-running.was at c.requires.0 in
+    (status, c.requires.1)
 
 pub returns-then-s-lt128 : goal.returns-then-s-lt128
 returns-then-s-lt128 c =
     let byte = c.from-s.ensures ∙ byte_there _ _ c.in_ok-get.ensures.lookup.0 _ c.in_ok-get.ensures.lookup.1 in
-    rw (under_status _ _ _ _ byte c.if-s-lt128.true c.if-running-eq0.false) c.channel_message.ensures
+    let status : ChannelStatus c.in_ok-running.field-0 = rw c.in_ok-running.was at c.requires.0 in
+    rw c.in_ok-running.was (rw (under_status _ _ _ _ byte c.if-s-lt128.true (status)) c.channel_message.ensures)
 
 pub channel_message-requires-then-s-lt240 : goal.channel_message-requires-then-s-lt240
 channel_message-requires-then-s-lt240 c =

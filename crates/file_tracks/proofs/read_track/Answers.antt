@@ -1,4 +1,3 @@
-use mathlib.Core.Logic.{inl}
 use mathlib.Core.Path.{refl, ◌∙◌}
 use native.Mathlib.Omega.{arith}
 use lib.ListN.{length}
@@ -9,7 +8,7 @@ use Rattle.file_tracks.proofs.read_track.Goals as goal
 pub loop-at-init : goal.loop-at-init
 loop-at-init c =
     let a = c.args in
-    (omega arith, inl refl, refl, refl, omega arith, omega arith, refl, λ ds ws es h. progress_start a.body.now es a.gathered ds ws _ _ h)
+    (omega arith, tt, refl, refl, omega arith, omega arith, refl, λ ds ws es h. progress_start a.body.now es a.gathered ds ws _ _ h)
 
 pub read_event-requires : goal.read_event-requires
 read_event-requires c = (c.loop-at.invariant.1, omega arith)
