@@ -12,6 +12,7 @@ fn power_of_two(k: u64) -> u64
 }
 
 // The ticks of a value: 0 where they are no whole number.
+// Kept: `note_values` promises a table of numbers (`table_of`), with a 0 for what is no value.
 fn whole_ticks(p: u64, code: u64, dots: u64) -> u64
     requires { (p ≤ 65535) × (code ≤ 8) × (dots ≤ 1) }
     ensures { result ≡ entry_of p code dots }
