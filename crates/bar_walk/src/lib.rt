@@ -153,10 +153,7 @@ impl Walker {
         ensures { result ≡ bar_length self.p (meter_in self) }
     {
         let length = 4 * self.p * self.upper as u64 / self.lower as u64;
-        if length < 1 {
-            return 1;
-        }
-        length
+        length.max(1)
     }
 
     // The next bar, before its changes are taken.

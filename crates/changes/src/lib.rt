@@ -38,14 +38,7 @@ pub fn tempo_of(value: u32) -> u32
     requires { 0 < value }
     ensures { result ≡ tempo_of value }
 {
-    let bpm = 60000000 / value % 65536;
-    if bpm < 1 {
-        return 1;
-    }
-    if 999 < bpm {
-        return 999;
-    }
-    bpm
+    (60000000 / value % 65536).clamp(1, 999)
 }
 
 // The lower figure of a meter's word, from its power.

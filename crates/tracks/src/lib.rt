@@ -21,10 +21,9 @@ pub struct Span {
 pub fn ticks_per_quarter(sizes: &[u32]) -> u64
     ensures { result ≡ ticks_per_quarter (piece sizes.now [] []) }
 {
-    if sizes.len() == 0 {
+    let Some(&division) = sizes.first() else {
         return 0;
-    }
-    let division = sizes[0];
+    };
     if division / 32768 % 2 == 1 {
         return 480;
     }

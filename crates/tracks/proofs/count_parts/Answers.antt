@@ -10,14 +10,8 @@ loop-i-init c = parts_start c.requires
 pub returns-then-n-eq-MOST_PARTS : goal.returns-then-n-eq-MOST_PARTS
 returns-then-n-eq-MOST_PARTS c = parts_full c.loop-i.invariant c.if-n-eq-MOST_PARTS.true
 
-pub overflow_add-to : goal.overflow_add-to
-overflow_add-to c = omega (arith, (cut_words c.loop-i.invariant.cut (omega arith) refl).1)
-
 pub cut-requires : goal.cut-requires
 cut-requires c = cut_words c.loop-i.invariant.cut (omega arith) refl
-
-pub overflow_add-n : goal.overflow_add-n
-overflow_add-n c = omega (arith, c.loop-i.invariant.few)
 
 pub loop-i-preserved : goal.loop-i-preserved
 loop-i-preserved c =

@@ -6,9 +6,6 @@ use Rattle.tracks.proofs.most_notes.Goals as goal
 pub loop-t-init : goal.loop-t-init
 loop-t-init c = most_start c.requires
 
-pub overflow_add-to : goal.overflow_add-to
-overflow_add-to c = omega (arith, (cut_words c.loop-t.invariant.cut (omega arith) refl).1)
-
 pub cut-requires : goal.cut-requires
 cut-requires c = cut_words c.loop-t.invariant.cut (omega arith) refl
 

@@ -7,9 +7,6 @@ use Rattle.tracks.proofs.part_track.Goals.{then-has_notes+else-before-eq0, else-
 pub loop-i-init : goal.loop-i-init
 loop-i-init c = seek_start c.requires.0 c.requires.1
 
-pub overflow_add-to : goal.overflow_add-to
-overflow_add-to c = omega (arith, (cut_words c.loop-i.invariant.cut (omega arith) refl).1)
-
 pub cut-requires : goal.cut-requires
 cut-requires c = cut_words c.loop-i.invariant.cut (omega arith) refl
 

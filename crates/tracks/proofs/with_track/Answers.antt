@@ -6,6 +6,3 @@ use Rattle.tracks.proofs.with_track.Goals as goal
 
 pub returns-then-words-most : goal.returns-then-words-most
 returns-then-words-most c = omega (arith, c.if-words-most.true, keep_few is_on c.args.words.now)
-
-pub returns : goal.returns
-returns c = omega (arith, c.max.ensures, c.ons.ensures)
