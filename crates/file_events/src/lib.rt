@@ -9,7 +9,7 @@ ghost use Rattle.laws.specs.Parsed.{Agrees};
 ghost use Rattle.file_events.specs.Events.{NumberIs, number_read, SpanIs, span_read, Status, status_of, ChannelStatus, channel_taken};
 ghost use Rattle.file_events.specs.Events.{MessageIs, message_read, EventIs, event_read};
 
-use track_events::well_formed;
+use track_events::{Kind, well_formed};
 
 // A variable-length quantity, and where the bytes behind it start.
 #[derive(Clone, Copy)]
@@ -157,22 +157,22 @@ fn meta_word(kind: u32, content: &[u8]) -> u32
     ensures { result ≡ meta_word kind content.now }
 {
     if kind == 47 {
-        return 6 * 16777216;
+        return Kind::EndOfTrack as u32 * 16777216;
     }
     if kind == 81 {
-        return word_of_two(2, content[0], content[1]) + u32::from(content[2]);
+        return word_of_two(Kind::Tempo as u32, content[0], content[1]) + u32::from(content[2]);
     }
     if kind == 88 {
-        return word_of_two(3, content[0], content[1]);
+        return word_of_two(Kind::Meter as u32, content[0], content[1]);
     }
     if kind == 89 {
-        return word_of_two(4, content[0], content[1]);
+        return word_of_two(Kind::Key as u32, content[0], content[1]);
     }
     if kind != 127 {
         return 0;
     }
     if is_marker(content) {
-        return word_of_two(5, content[5], content[6]);
+        return word_of_two(Kind::Marker as u32, content[5], content[6]);
     }
     0
 }
@@ -210,7 +210,7 @@ fn system_message(bytes: &[u8], status: u32, at: usize) -> Option<Taken>
     let span = read_data(bytes, at)?;
     let running = None;
     Some(Taken {
-        word: 16777216,
+        word: Kind::System as u32 * 16777216,
         good: true,
         ends: false,
         running,
