@@ -21,6 +21,11 @@ at_base f (Some b) = f b
 pub record Channels (bases : List (Option ℕ)) : Type 0 where
   pub below : (s b : ℕ) → s < 16 → get_or bases s None ≡ Some b → b < 16
 
+-- the pairs, unless there is no answer
+abbrev pub kept : Option (Unit {0}) → Pairs → Option Pairs
+kept None q = None
+kept (Some u) q = Some q
+
 -- a spare's first base is held; with another there is no answer
 abbrev pub added_to : Option ℕ → Pairs → ℕ → ℕ → Option Pairs
 added_to None q b s = Some (record { bases = set q.bases s (Some b) })

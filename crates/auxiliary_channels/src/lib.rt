@@ -6,7 +6,7 @@ ghost use Rattle.rules.specs.Lists.{keep};
 ghost use Rattle.rules.specs.Piece.{well_formed};
 ghost use Rattle.rules.specs.Automation.{is_automation_of, same_messages, counts?, mirrors};
 ghost use Rattle.track_events.specs.Track.{Track, events_of};
-ghost use Rattle.auxiliary_channels.specs.Markers.{marker, at_base, Channels, added, taken, pairs_of, is_chained, none_chained, Mirrors, Drops};
+ghost use Rattle.auxiliary_channels.specs.Markers.{marker, at_base, Channels, kept, added, taken, pairs_of, is_chained, none_chained, Mirrors, Drops};
 ghost use Rattle.auxiliary_channels.specs.Mirror.{IsPlace, Behind, is_word_of, Next, same_bytes, Comparable, same_at};
 
 use automation_ticks::SourceTick;
@@ -15,7 +15,7 @@ use track_events::Kind;
 // ---- markers
 
 // The base of each spare channel.
-#[derive(Clone, Copy)]
+#[derive(Drop)]
 struct Pairs {
     bases: [Option<u32>; 16],
 }
@@ -29,33 +29,33 @@ fn is_pair(base: u32, spare: u32) -> bool
 
 impl Pairs {
     // A spare's first base is held; None where it is given another.
-    fn add(mut self, base: u32, spare: usize) -> Option<Self>
+    fn add(&mut self, base: u32, spare: usize) -> Option<()>
         requires { spare < 16 }
-        ensures { result ≡ added self base spare }
+        ensures { kept result self.new ≡ added self.old base spare }
     {
         let Some(held) = self.bases[spare] else {
             self.bases[spare] = Some(base);
-            return Some(self);
+            return Some(());
         };
         if held != base {
             return None;
         }
-        Some(self)
+        Some(())
     }
 
     // A word that is no marker, or one that does not count, changes nothing.
-    fn take_marker(self, word: u32) -> Option<Self>
-        ensures { result ≡ taken self word }
+    fn take_marker(&mut self, word: u32) -> Option<()>
+        ensures { kept result self.new ≡ taken self.old word }
     {
         if !track_events::is_kind(word, Kind::Marker) {
-            return Some(self);
+            return Some(());
         }
         let base = track_events::byte_a(word);
         let spare = track_events::byte_b(word);
         if is_pair(base, spare) {
             self.add(base, spare as usize)
         } else {
-            Some(self)
+            Some(())
         }
     }
 }
@@ -66,7 +66,7 @@ fn collect_markers(words: &[u32]) -> Option<Pairs>
 {
     let mut pairs = Pairs { bases: [None; 16] };
     for word in words {
-        pairs = pairs.take_marker(*word)?;
+        pairs.take_marker(*word)?;
     }
     Some(pairs)
 }
