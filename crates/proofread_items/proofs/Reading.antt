@@ -1,8 +1,9 @@
 -- The items of a voice in a bar, one after the other: what is left to be heard.
 use Prim.Native.Nat.{ℕ, ◌+◌, ◌-◌, ◌*◌, ◌≤◌, ◌<◌}
-use mathlib.Core.Bool.{true, false, true≢false}
+use mathlib.Core.Bool.{false}
 use mathlib.Core.List.{List, [], ◌∷◌, map}
 use mathlib.Core.Path.{◌≡◌, refl, sym, ap, subst, ◌∙◌}
+use Rattle.std.specs.Prelude as std
 use native.Mathlib.Nat.{sub-zero, add-zero}
 use native.Mathlib.Omega.{arith}
 use lib.ListN.{length, take, drop}
@@ -31,18 +32,17 @@ pub record Left (g n m e p : ℕ) (ns : List RawNote) (all left : List items.Ite
   pub same : run p e ns (heard_of v closed) (timed_from p v.tick left) ≡ run p e ns (heard_of v₀ cs) (timed_from p v₀.tick all)
 
 pub record Reading (g n m e p : ℕ) (all left : List items.Item) (w₀ w : List ℕ) (v₀ v : Voice) : Type 0 where
-  pub ok : v.ok ≡ true
   pub area : Same n w₀ w
   pub paced : Paced g n m w v
   pub hears : (cs : List Played) → Marks g n m w₀ cs → Left g n m e p (notes_at g n m w₀) all left v₀ cs w v
   pub ticks : v.tick + sum (map (item_ticks p) left) ≡ v₀.tick + sum (map (item_ticks p) all)
 
-pub reading_start : {g n m e p : ℕ} {all : List items.Item} {w : List ℕ} {v : Voice} → v.ok ≡ true → Paced g n m w v → Reading g n m e p all all w w v v
-reading_start {n = n} {w = w} ok k =
-    record { ok = ok; area = same_self n w; paced = k; hears = λ cs c. record { closed = cs; marks = c; same = refl }; ticks = refl }
+pub reading_start : {g n m e p : ℕ} {all : List items.Item} {w : List ℕ} {v : Voice} → Paced g n m w v → Reading g n m e p all all w w v v
+reading_start {n = n} {w = w} k =
+    record { area = same_self n w; paced = k; hears = λ cs c. record { closed = cs; marks = c; same = refl }; ticks = refl }
 
-module _ {g n m e p : ℕ} {all left : List items.Item} {w₀ w w' : List ℕ} {v₀ v r : Voice} {i : Item} (room : m ≤ n)
-    (now : Reading g n m e p all (as_item i ∷ left) w₀ w v₀ v) (t : Takes g n m e p i w w' v r) where
+module _ {g n m e p : ℕ} {all left : List items.Item} {w₀ w : List ℕ} {v₀ v : Voice} (i : Item) (room : m ≤ n)
+    (now : Reading g n m e p all (as_item i ∷ left) w₀ w v₀ v) where
   -- what the rules hear of the next item
   step : (cs : List Played) (c : Marks g n m w₀ cs)
       → run p e (notes_at g n m w₀) (hear_one p e (notes_at g n m w) (heard_of v (now.hears cs c).closed) (timed_at p v i))
@@ -51,65 +51,65 @@ module _ {g n m e p : ℕ} {all left : List items.Item} {w₀ w w' : List ℕ} {
   unfolding timed_from
   step cs c = rw (notes_same now.area g m room) (now.hears cs c).same
 
-  pub reading_more : r.ok ≡ true → Reading g n m e p all left w₀ w' v₀ r
+  pub reading_more : {w' : List ℕ} {r : Voice} → Takes g n m e p i w w' v (std.Some r) → Reading g n m e p all left w₀ w' v₀ r
   unfolding sum
-  reading_more h =
+  reading_more {w'} {r} t =
       record {
-        ok = h;
         area = same_then now.area t.hears.same;
-        paced = t.hears.paced h;
+        paced = t.hears.is.paced;
         hears =
             λ cs c.
             let before = now.hears cs c in
-            let held = t.hears.goes h before.closed before.marks in
+            let held = t.hears.is.holds before.closed before.marks in
             record {
               closed = (hear_one p e (notes_at g n m w) (heard_of v before.closed) (timed_at p v i)).closed;
               marks = held.marks;
               same =
-                  rw (t.tick h)
+                  rw t.tick
                   (ap (λ (a : Heard). run p e (notes_at g n m w₀) a (timed_from p (v.tick + item_ticks p (as_item i)) left)) held.is ∙ step cs c);
             };
-        ticks = omega (arith, t.tick h, now.ticks);
+        ticks = omega (arith, t.tick, now.ticks);
       }
 
-  pub reading_failed : r.ok ≡ false → TakesAll g n m e p all w₀ w' v₀ r
-  reading_failed h =
+  pub reading_failed : {w' : List ℕ} → Takes g n m e p i w w' v std.None → TakesAll g n m e p all w₀ w' v₀ std.None
+  reading_failed t =
       record {
         hears =
             record {
               same = same_then now.area t.hears.same;
-              fails =
-                  λ o cs c.
+              is =
+                  λ cs c.
                   let before = now.hears cs c in
                   sym (ap (λ (a : Heard). a.ok) (step cs c)) ∙ run_failed p e (notes_at g n m w₀)
                   (hear_one p e (notes_at g n m w) (heard_of v before.closed) (timed_at p v i)) (timed_from p (v.tick + item_ticks p (as_item i)) left)
-                  (t.hears.fails h before.closed before.marks);
-              goes = λ o. absurd (true≢false (sym o ∙ h));
-              paced = λ o. absurd (true≢false (sym o ∙ h));
+                  (t.hears.is before.closed before.marks);
             };
-        tick = λ o. absurd (true≢false (sym o ∙ h));
+        tick = tt;
       }
 
-pub reading_end : {g n m e p : ℕ} {all : List items.Item} {w₀ w : List ℕ} {v₀ v : Voice} → Reading g n m e p all [] w₀ w v₀ v → TakesAll g n m e p all w₀ w v₀ v
+pub reading_end : {g n m e p : ℕ} {all : List items.Item} {w₀ w : List ℕ} {v₀ v : Voice} → Reading g n m e p all [] w₀ w v₀ v
+    → TakesAll g n m e p all w₀ w v₀ (std.Some v)
 unfolding timed_from sum
 reading_end {g} {n} {m} {e} {p} {all} {w₀} {w} {v₀} {v} now =
     record {
       hears =
           record {
             same = now.area;
-            fails = λ o cs c. absurd (true≢false (sym now.ok ∙ o));
-            goes =
-                λ o cs c.
-                let done = now.hears cs c in
-                let q = ap (λ (a : Heard). a.closed) done.same in
+            is =
                 record {
-                  marks = subst (Marks g n m w) q done.marks;
-                  is =
-                      subst (λ (l : List Played). heard_of v l ≡ run p e (notes_at g n m w₀) (heard_of v₀ cs) (timed_from p v₀.tick all)) q done.same;
+                  holds =
+                      λ cs c.
+                      let done = now.hears cs c in
+                      let q = ap (λ (a : Heard). a.closed) done.same in
+                      record {
+                        marks = subst (Marks g n m w) q done.marks;
+                        is =
+                            subst (λ (l : List Played). heard_of v l ≡ run p e (notes_at g n m w₀) (heard_of v₀ cs) (timed_from p v₀.tick all)) q done.same;
+                      };
+                  paced = now.paced;
                 };
-            paced = λ o. now.paced;
           };
-      tick = λ o. omega (arith, now.ticks);
+      tick = omega (arith, now.ticks);
     }
 
 -- ---- the items of the arrays
@@ -134,7 +134,7 @@ module _ {g n m e p : ℕ} {w₀ w : List ℕ} {v₀ v : Voice} (hs ks : List �
       (items_cons hs ks first count i h l o ∙ ap (λ (x : items.Item). x ∷ items_left hs ks first count (i + 1)) (sym q)) r
 
   pub arrays_end : {i : ℕ} → count ≤ i → Reading g n m e p (items_of hs ks first count) (items_left hs ks first count i) w₀ w v₀ v
-      → TakesAll g n m e p (items_of hs ks first count) w₀ w v₀ v
+      → TakesAll g n m e p (items_of hs ks first count) w₀ w v₀ (std.Some v)
   arrays_end {i} h r =
       reading_end
       (subst (λ (is : List items.Item). Reading g n m e p (items_of hs ks first count) is w₀ w v₀ v)

@@ -1,91 +1,91 @@
 -- One item of a voice: the chord that it closes, the chord that it opens or prolongs, its tie.
 use Prim.Native.Nat.{ℕ, ◌+◌, ◌≤◌}
-use mathlib.Core.Bool.{Bool, true, false, cond, ◌&&◌, true≢false}
+use mathlib.Core.Bool.{Bool, true, false, ◌&&◌}
 use mathlib.Core.List.{List}
-use mathlib.Core.Option.{Option, none, some}
+use mathlib.Core.Option.{Option}
 use mathlib.Core.Path.{◌≡◌, refl, sym, ap, subst, ◌∙◌}
+use Rattle.std.specs.Prelude as std
+use Rattle.std.specs.Option.{is_some}
+use Rattle.std.proofs.lemmas.Option.{IfSome_then}
 use native.Mathlib.Omega.{arith}
 use borrow.Author.Tests.{leb-true}
 use Rattle.rules.specs.ProofReader.{item_ticks, Played}
 use Rattle.rules.specs.ProofReader as facts
 use Rattle.proofread_notes.specs.Columns.{Readable, notes_at, Marks}
-use Rattle.proofread_notes.specs.Chords.{played_of, Checks}
+use Rattle.proofread_notes.specs.Chords.{Checks}
 use Rattle.proofread_notes.specs.declared.Chord.{Chord}
-use Rattle.proofread_notes.specs.declared.Checked.{Checked}
 use Rattle.proofread_notes.proofs.Areas.{same_self, before_same, before_later}
 use Rattle.proofread_items.specs.Playing.{Heard, fits?, prolonged_to, sound_ok?, chord_after, closed_after, hear_one}
-use Rattle.proofread_items.specs.Playing.{as_item, timed_at, tie_of, chord_of, Paced, Closes, Sounds, Takes}
+use Rattle.proofread_items.specs.Playing.{as_item, timed_at, as_tie, tie_of, tie_left, as_chord, chord_of, last_start, Paced, Closes, Sounds, Takes}
 use Rattle.proofread_items.specs.declared.Item.{Item}
 use Rattle.proofread_items.specs.declared.Voice.{Voice}
 
 -- ---- the last chord is closed
 module _ {g n m e next : ℕ} {w : List ℕ} {v : Voice} where
-  pub closes_chord : {w' : List ℕ} {r : Voice} {x : Checked} → Readable g n m w → v.sounded ≡ true → Checks g n m e v.chord next w w' x
-      → r.ok ≡ x.ok → r.from ≡ x.from
+  pub closes_chord : {w' : List ℕ} {c : Chord} {r : std.Option ℕ} → Readable g n m w → v.chord ≡ std.Some c → Checks g n m e c next w w' r
       → Closes g n m e next w w' v r
-  closes_chord {r = r} ready s k a b =
+  closes_chord {r = r} ready s k =
       record {
         same = k.same;
-        ok = rw s (a ∙ k.ok);
-        within = omega (arith, k.skipped.within);
-        before = before_same k.same (omega (arith, k.skipped.within, ready.room)) (rw b k.skipped.before);
+        ok = rw s k.ok;
+        from = rw s (IfSome_then r k.skipped (λ j q. (q.within, before_same k.same (omega (arith, q.within, ready.room)) q.before)));
         marks = λ cs c. rw s (k.marks cs c);
       }
 
-  pub closes_none : v.sounded ≡ false → v.ok ≡ true → Paced g n m w v → Closes g n m e next w w v v
-  closes_none s ok k =
-      record { same = same_self n w; ok = rw s ok; within = k.within; before = k.before; marks = λ cs c. rw s c }
+  pub closes_none : v.chord ≡ std.None → Paced g n m w v → Closes g n m e next w w v (std.Some v.from)
+  closes_none s k =
+      record { same = same_self n w; ok = rw s; from = (k.within, k.before); marks = λ cs c. rw s c }
 
 -- ---- the item is played
-prolonged : (end : ℕ) (b : Bool) (c : Played)
-    → cond b (some (record { start = c.start; end = end; keys = c.keys; unpitched = c.unpitched })) none ≡ prolonged_to end (cond b (some c) none)
-prolonged end true c = refl
-prolonged end false c = refl
-
 module _ {g n m e end : ℕ} {i : Item} {w : List ℕ} {v : Voice} (k : Paced g n m w v) where
-  pub sounds_rest : i.rest ≡ true → v.ok ≡ true → Sounds g n m e i end w w v v
-  sounds_rest t ok =
+  pub sounds_rest : i.rest ≡ true → Sounds g n m e i end w w v (std.Some v)
+  sounds_rest t =
       record {
         same = same_self n w;
-        ok = rw t ok;
-        chord = rw t;
-        within = k.within;
-        before = k.before;
-        reached = k.reached;
+        ok = rw t;
+        voice = record { chord = rw t; within = k.within; before = k.before; reached = k.reached };
         marks = λ cs c. rw t c;
       }
 
-  -- r is the voice with its last chord prolonged
-  pub sounds_tied : {r : Voice} → i.rest ≡ false → i.tie_in ≡ true → v.ok ≡ true → r.ok ≡ v.ok → r.from ≡ v.from → r.sounded ≡ v.sounded
-      → r.chord ≡ record { start = v.chord.start; end = end; low = v.chord.low; high = v.chord.high; unpitched = v.chord.unpitched }
-      → Sounds g n m e i end w w v r
-  sounds_tied {r} t u ok a b s c =
-      let st : r.chord.start ≡ v.chord.start = ap (λ (x : Chord). x.start) c in
+  -- s is the voice with its last chord prolonged
+  pub sounds_tied : {s : Voice} → i.rest ≡ false → i.tie_in ≡ true → s.from ≡ v.from
+      → as_chord s.chord ≡ prolonged_to end (as_chord v.chord) → last_start s.chord ≡ last_start v.chord
+      → Sounds g n m e i end w w v (std.Some s)
+  sounds_tied {s} t u b c st =
       record {
         same = same_self n w;
-        ok = rw (t, u) (a ∙ ok);
-        chord = rw (t, u, s, c) (prolonged end v.sounded (played_of v.chord));
-        within = omega (arith, k.within);
-        before = rw (b, st) k.before;
-        reached = omega (arith, k.reached);
+        ok = rw (t, u);
+        voice =
+            record {
+              chord = rw (t, u) c;
+              within = omega (arith, b, k.within);
+              before = rw (b, st) k.before;
+              reached = omega (arith, st, k.reached);
+            };
         marks = λ cs o. rw (t, u) o;
       }
 
-  -- q is the voice with its last chord closed, r the same with a chord more
-  pub sounds_new : {w' : List ℕ} {q r : Voice} → i.rest ≡ false → i.tie_in ≡ false → Closes g n m e v.tick w w' v q → r.ok ≡ q.ok
-      → r.from ≡ q.from → r.sounded ≡ true
-      → r.chord ≡ record { start = v.tick; end = end; low = i.low; high = i.high; unpitched = i.unpitched } → Sounds g n m e i end w w' v r
-  sounds_new {w'} {q} {r} t u x a b s c =
-      let st : r.chord.start ≡ v.tick = ap (λ (y : Chord). y.start) c in
-      record {
-        same = x.same;
-        ok = rw (t, u) (a ∙ x.ok);
-        chord = rw (t, u, s, c);
-        within = omega (arith, x.within);
-        before = rw (b, st) (before_later k.reached x.before);
-        reached = omega arith;
-        marks = λ cs o. rw (t, u) (x.marks cs o);
-      }
+  module _ (t : i.rest ≡ false) (u : i.tie_in ≡ false) where
+    pub sounds_not : {w' : List ℕ} → Closes g n m e v.tick w w' v std.None → Sounds g n m e i end w w' v std.None
+    sounds_not x = record { same = x.same; ok = rw (t, u) x.ok; voice = tt; marks = λ cs o. rw (t, u) (x.marks cs o) }
+
+    -- the last chord is closed, and s is the voice with a chord more
+    pub sounds_new : {w' : List ℕ} {f : ℕ} {s : Voice} → Closes g n m e v.tick w w' v (std.Some f) → s.from ≡ f
+        → s.chord ≡ std.Some (record { start = v.tick; end = end; low = i.low; high = i.high; unpitched = i.unpitched })
+        → Sounds g n m e i end w w' v (std.Some s)
+    sounds_new {w'} {f} {s} x b c =
+        record {
+          same = x.same;
+          ok = rw (t, u) x.ok;
+          voice =
+              record {
+                chord = rw (t, u, c);
+                within = omega (arith, b, x.from.0);
+                before = rw (b, c) (before_later k.reached x.from.1);
+                reached = omega (arith, ap last_start c);
+              };
+          marks = λ cs o. rw (t, u) (x.marks cs o);
+        }
 
 -- ---- the item is taken
 and_true : (a b c : Bool) → (a && b && c) ≡ true → a ≡ true
@@ -100,51 +100,54 @@ fits_code p h v i f = leb-true i.code 8 (and_true _ _ _ (and_true _ _ _ f))
 pub heard_is : {a b : Heard} → a.ok ≡ b.ok → a.tie ≡ b.tie → a.chord ≡ b.chord → a.closed ≡ b.closed → a ≡ b
 heard_is o t c l = λ i. record { ok = o i; tie = t i; chord = c i; closed = l i }
 
-module _ {g n m e p : ℕ} (i : Item) {w : List ℕ} (v : Voice) (ok : v.ok ≡ true) where
-  -- s is the voice with the item played, r the same with its tie and tick
-  pub takes_fit : {w' : List ℕ} {s r : Voice} (end : ℕ) → fits? p (tie_of v) (timed_at p v i) ≡ true → end ≡ v.tick + item_ticks p (as_item i)
-      → end ≤ v.tick + 3145680
-      → Sounds g n m e i end w w' v s → r.ok ≡ s.ok → r.tick ≡ end → r.tied ≡ i.tie_out
-      → r.tie ≡ record { tick = end; low = i.low; high = i.high; unpitched = i.unpitched } → chord_of r ≡ chord_of s → r.chord ≡ s.chord
-      → r.from ≡ s.from
-      → Takes g n m e p i w w' v r
-  unfolding hear_one
-  takes_fit {w'} {s} {r} end f long short x a tick tied tie chord last from =
-      let st : r.chord.start ≡ s.chord.start = ap (λ (y : Chord). y.start) last in
-      let sounded = subst (λ (t : ℕ). sound_ok? e (notes_at g n m w) (chord_of v) (record { from = v.tick; to = t; item = as_item i }) ≡ s.ok) long
-      (sym x.ok) in
-      record {
-        hears =
-            record {
-              same = x.same;
-              fails = λ h cs c. rw (ok, f) (sounded ∙ sym a ∙ h);
-              goes =
-                  λ h cs c.
-                  record {
-                    marks =
-                        subst (λ (t : ℕ). Marks g n m w' (closed_after (chord_of v) (record { from = v.tick; to = t; item = as_item i }) cs)) long
-                        (x.marks cs c);
-                    is =
-                        heard_is (rw (ok, f) (a ∙ sym sounded)) (rw (tied, tie, long))
-                        (chord ∙ x.chord ∙ ap (λ (t : ℕ). chord_after (chord_of v) (record { from = v.tick; to = t; item = as_item i })) long) refl;
-                  };
-              paced = λ h. record { within = omega (arith, x.within); before = rw (from, st) x.before; reached = omega (arith, x.reached) };
-            };
-        tick = λ h. tick ∙ long;
-        short = λ h. omega arith;
-      }
+-- the item's end, by its value
+sounded : {g n m e : ℕ} (p : ℕ) {i : Item} {w w' : List ℕ} {v : Voice} {end : ℕ} (long : end ≡ v.tick + item_ticks p (as_item i)) {r : std.Option Voice}
+    → Sounds g n m e i end w w' v r
+    → sound_ok? e (notes_at g n m w) (chord_of v) (record { from = v.tick; to = v.tick + item_ticks p (as_item i); item = as_item i }) ≡ is_some r
+sounded {g} {n} {m} {e} p {i} {w} {w'} {v} long {r} x =
+    subst (λ (t : ℕ). sound_ok? e (notes_at g n m w) (chord_of v) (record { from = v.tick; to = t; item = as_item i }) ≡ is_some r) long (sym x.ok)
 
-  pub takes_not : {r : Voice} → fits? p (tie_of v) (timed_at p v i) ≡ false → r.ok ≡ false → Takes g n m e p i w w v r
+module _ {g n m e p : ℕ} (i : Item) {w : List ℕ} (v : Voice) where
+  pub takes_not : fits? p (tie_of v) (timed_at p v i) ≡ false → Takes g n m e p i w w v std.None
   unfolding hear_one
-  takes_not f a =
-      record {
-        hears =
-            record {
-              same = same_self n w;
-              fails = λ h cs c. rw (ok, f);
-              goes = λ h. absurd (true≢false (sym h ∙ a));
-              paced = λ h. absurd (true≢false (sym h ∙ a));
-            };
-        tick = λ h. absurd (true≢false (sym h ∙ a));
-        short = λ h. absurd (true≢false (sym h ∙ a));
-      }
+  takes_not f = record { hears = record { same = same_self n w; is = λ cs c. rw f }; tick = tt; short = tt }
+
+  module _ {w' : List ℕ} (end : ℕ) (f : fits? p (tie_of v) (timed_at p v i) ≡ true) (long : end ≡ v.tick + item_ticks p (as_item i)) where
+    pub takes_wrong : Sounds g n m e i end w w' v std.None → Takes g n m e p i w w' v std.None
+    unfolding hear_one
+    takes_wrong x = record { hears = record { same = x.same; is = λ cs c. rw f (sounded p long x) }; tick = tt; short = tt }
+
+    -- s is the voice with the item played, r the same with its tie and tick
+    pub takes_fit : {s r : Voice} → end ≤ v.tick + 3145680 → Sounds g n m e i end w w' v (std.Some s) → r.tick ≡ end → as_tie r.tie ≡ tie_left i end
+        → r.chord ≡ s.chord → r.from ≡ s.from → Takes g n m e p i w w' v (std.Some r)
+    unfolding hear_one
+    takes_fit {s} {r} short x tick tie chord from =
+        let st : last_start r.chord ≡ last_start s.chord = ap last_start chord in
+        record {
+          hears =
+              record {
+                same = x.same;
+                is =
+                    record {
+                      holds =
+                          λ cs c.
+                          record {
+                            marks =
+                                subst (λ (t : ℕ). Marks g n m w' (closed_after (chord_of v) (record { from = v.tick; to = t; item = as_item i }) cs)) long
+                                (x.marks cs c);
+                            is =
+                                heard_is (rw f (sym (sounded p long x))) (rw (tie, long))
+                                (ap as_chord chord ∙ x.voice.chord ∙ ap (λ (t : ℕ). chord_after (chord_of v) (record { from = v.tick; to = t; item = as_item i })) long)
+                                refl;
+                          };
+                      paced =
+                          record {
+                            within = omega (arith, from, x.voice.within);
+                            before = rw (from, st) x.voice.before;
+                            reached = omega (arith, st, tick, long, x.voice.reached);
+                          };
+                    };
+              };
+          tick = tick ∙ long;
+          short = omega (arith, tick);
+        }

@@ -1,4 +1,6 @@
 -- A voice played back item by item: what is heard of it, and what the steps of the code promise.
+use Rattle.std.specs.Prelude as std
+use Rattle.std.specs.Option.{is_some}
 use Rattle.std.specs.Prelude.{ℕ, ◌+◌, ◌*◌, ◌^◌, ◌≤◌, Bool, true, false, cond, ◌&&◌, ◌≡◌}
 use mathlib.Core.List.{List, ◌∷◌, map, foldl}
 use Rattle.std.proofs.Math.Option.{Option, none, some}
@@ -10,6 +12,7 @@ use Rattle.rules.specs.ProofReaderTests.{staff_value?, clean?, meets?}
 use Rattle.rules.specs.Items as items
 use Rattle.proofread_notes.specs.Columns.{notes_at, Same, Before, Marks}
 use Rattle.proofread_notes.specs.Chords.{played_of, chord_ok?}
+use Rattle.proofread_notes.specs.declared.Chord.{Chord}
 use Rattle.proofread_items.specs.declared.Item.{Item}
 use Rattle.proofread_items.specs.declared.Tie.{Tie}
 use Rattle.proofread_items.specs.declared.Voice.{Voice}
@@ -84,63 +87,88 @@ as_item i =
 abbrev pub timed_at : ℕ → Voice → Item → Timed
 timed_at p v i = record { from = v.tick; to = v.tick + item_ticks p (as_item i); item = as_item i }
 
-abbrev pub as_tie : Tie → facts.Tie
-as_tie t = record { tick = t.tick; keys = t.low + t.high * 2 ^ 64; unpitched = t.unpitched }
+abbrev pub tie_from : Tie → facts.Tie
+tie_from t = record { tick = t.tick; keys = t.low + t.high * 2 ^ 64; unpitched = t.unpitched }
+
+abbrev pub as_tie : std.Option Tie → Option facts.Tie
+as_tie std.None = none
+as_tie (std.Some t) = some (tie_from t)
 
 abbrev pub tie_of : Voice → Option facts.Tie
-tie_of v = cond v.tied (some (as_tie v.tie)) none
+tie_of v = as_tie v.tie
+
+-- the tie-out that an item leaves at the tick `end`
+abbrev pub tie_left : Item → ℕ → Option facts.Tie
+tie_left i end = cond i.tie_out (some (record { tick = end; keys = i.low + i.high * 2 ^ 64; unpitched = i.unpitched })) none
+
+abbrev pub as_chord : std.Option Chord → Option Played
+as_chord std.None = none
+as_chord (std.Some c) = some (played_of c)
 
 abbrev pub chord_of : Voice → Option Played
-chord_of v = cond v.sounded (some (played_of v.chord)) none
+chord_of v = as_chord v.chord
+
+-- the start of the last chord, 0 before the first
+abbrev pub last_start : std.Option Chord → ℕ
+last_start std.None = 0
+last_start (std.Some c) = c.start
 
 -- the voice, cs being the chords closed before its last
 abbrev pub heard_of : Voice → List Played → Heard
-heard_of v cs = record { ok = v.ok; tie = tie_of v; chord = chord_of v; closed = cs }
+heard_of v cs = record { ok = true; tie = tie_of v; chord = chord_of v; closed = cs }
 
 -- ---- what the steps promise
 
 -- no note before `from` starts with the last chord or later, and the last chord is not behind the tick
 pub record Paced (g n m : ℕ) (w : List ℕ) (v : Voice) : Type 0 where
   pub within : v.from ≤ m
-  pub before : Before g n w v.from v.chord.start
-  pub reached : v.chord.start ≤ v.tick
+  pub before : Before g n w v.from (last_start v.chord)
+  pub reached : last_start v.chord ≤ v.tick
 
--- the last chord is closed; what else was known stays
-pub record Closes (g n m e next : ℕ) (w w' : List ℕ) (v r : Voice) : Type 0 where
+-- the last chord is closed, and r is where the notes of the next one are looked for
+pub record Closes (g n m e next : ℕ) (w w' : List ℕ) (v : Voice) (r : std.Option ℕ) : Type 0 where
   pub same : Same n w w'
-  pub ok : r.ok ≡ last_ok? e (notes_at g n m w) (chord_of v) next
-  pub within : r.from ≤ m
-  pub before : Before g n w' r.from v.chord.start
+  pub ok : is_some r ≡ last_ok? e (notes_at g n m w) (chord_of v) next
+  pub from : std.IfSome r (λ (k : ℕ). (k ≤ m) × Before g n w' k (last_start v.chord))
   pub marks : (cs : List Played) → Marks g n m w cs → Marks g n m w' (closed_with (chord_of v) cs)
 
--- the item is played
-pub record Sounds (g n m e : ℕ) (i : Item) (end : ℕ) (w w' : List ℕ) (v r : Voice) : Type 0 where
+-- the item is played, and leaves the voice s
+pub record Sounded (g n m : ℕ) (i : Item) (end : ℕ) (w' : List ℕ) (v s : Voice) : Type 0 where
+  pub chord : chord_of s ≡ chord_after (chord_of v) (record { from = v.tick; to = end; item = as_item i })
+  pub within : s.from ≤ m
+  pub before : Before g n w' s.from (last_start s.chord)
+  pub reached : last_start s.chord ≤ v.tick
+
+pub record Sounds (g n m e : ℕ) (i : Item) (end : ℕ) (w w' : List ℕ) (v : Voice) (r : std.Option Voice) : Type 0 where
   pub same : Same n w w'
-  pub ok : r.ok ≡ sound_ok? e (notes_at g n m w) (chord_of v) (record { from = v.tick; to = end; item = as_item i })
-  pub chord : chord_of r ≡ chord_after (chord_of v) (record { from = v.tick; to = end; item = as_item i })
-  pub within : r.from ≤ m
-  pub before : Before g n w' r.from r.chord.start
-  pub reached : r.chord.start ≤ v.tick
+  pub ok : is_some r ≡ sound_ok? e (notes_at g n m w) (chord_of v) (record { from = v.tick; to = end; item = as_item i })
+  pub voice : std.IfSome r (Sounded g n m i end w' v)
   pub marks : (cs : List Played) → Marks g n m w cs
       → Marks g n m w' (closed_after (chord_of v) (record { from = v.tick; to = end; item = as_item i }) cs)
 
--- what is heard is a, where the code's voice has not failed
+-- what is heard is a, where the code has the voice r
 pub record Holds (g n m : ℕ) (w : List ℕ) (a : Heard) (r : Voice) : Type 0 where
   pub marks : Marks g n m w a.closed
   pub is : heard_of r a.closed ≡ a
 
+-- whatever chords were closed before, what is heard has failed, or the code has the voice r
+abbrev pub Fails : ℕ → ℕ → ℕ → List ℕ → (List Played → Heard) → Type 0
+Fails g n m w heard = (cs : List Played) → Marks g n m w cs → (heard cs).ok ≡ false
+
+pub record Goes (g n m : ℕ) (w w' : List ℕ) (heard : List Played → Heard) (r : Voice) : Type 0 where
+  pub holds : (cs : List Played) → Marks g n m w cs → Holds g n m w' (heard cs) r
+  pub paced : Paced g n m w' r
+
 -- From a voice in the area w, whatever chords were closed before it, the code comes to r in the area w', and the rules to `heard`.
-pub record Hears (g n m : ℕ) (w w' : List ℕ) (heard : List Played → Heard) (r : Voice) : Type 0 where
+pub record Hears (g n m : ℕ) (w w' : List ℕ) (heard : List Played → Heard) (r : std.Option Voice) : Type 0 where
   pub same : Same n w w'
-  pub fails : r.ok ≡ false → (cs : List Played) → Marks g n m w cs → (heard cs).ok ≡ false
-  pub goes : r.ok ≡ true → (cs : List Played) → Marks g n m w cs → Holds g n m w' (heard cs) r
-  pub paced : r.ok ≡ true → Paced g n m w' r
+  pub is : std.MatchOption r (Fails g n m w heard) (Goes g n m w w' heard)
 
-pub record Takes (g n m e p : ℕ) (i : Item) (w w' : List ℕ) (v r : Voice) : Type 0 where
+pub record Takes (g n m e p : ℕ) (i : Item) (w w' : List ℕ) (v : Voice) (r : std.Option Voice) : Type 0 where
   pub hears : Hears g n m w w' (λ cs. hear_one p e (notes_at g n m w) (heard_of v cs) (timed_at p v i)) r
-  pub tick : r.ok ≡ true → r.tick ≡ v.tick + item_ticks p (as_item i)
-  pub short : r.ok ≡ true → r.tick ≤ v.tick + 3145680
+  pub tick : std.IfSome r (λ (s : Voice). s.tick ≡ v.tick + item_ticks p (as_item i))
+  pub short : std.IfSome r (λ (s : Voice). s.tick ≤ v.tick + 3145680)
 
-pub record TakesAll (g n m e p : ℕ) (is : List items.Item) (w w' : List ℕ) (v r : Voice) : Type 0 where
+pub record TakesAll (g n m e p : ℕ) (is : List items.Item) (w w' : List ℕ) (v : Voice) (r : std.Option Voice) : Type 0 where
   pub hears : Hears g n m w w' (λ cs. run p e (notes_at g n m w) (heard_of v cs) (timed_from p v.tick is)) r
-  pub tick : r.ok ≡ true → r.tick ≡ v.tick + sum (map (item_ticks p) is)
+  pub tick : std.IfSome r (λ (s : Voice). s.tick ≡ v.tick + sum (map (item_ticks p) is))

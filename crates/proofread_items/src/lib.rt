@@ -7,7 +7,7 @@ ghost use Rattle.rules.specs.Values.{ticks_of, is_whole};
 ghost use Rattle.rules.specs.Items.{item_of, read_items};
 ghost use Rattle.rules.specs.ProofReaderTests.{clean?, meets?};
 ghost use Rattle.proofread_notes.specs.Columns.{Readable};
-ghost use Rattle.proofread_items.specs.Playing.{as_item, timed_at, tie_of, fits?, Paced, Closes, Sounds, Takes, TakesAll};
+ghost use Rattle.proofread_items.specs.Playing.{prolonged_to, as_item, timed_at, as_tie, tie_of, tie_left, as_chord, last_start, fits?, Paced, Closes, Sounds, Takes, TakesAll};
 
 use proofread_notes::Chord;
 
@@ -33,18 +33,15 @@ pub struct Tie {
     pub unpitched: bool,
 }
 
-// A voice as it is read. Where `ok` is false, it has failed and nothing else is known.
+// A voice as it is read.
 #[derive(Clone, Copy)]
 pub struct Voice {
-    pub ok: bool,
     // where the next item starts
     pub tick: u64,
-    // whether a tie-out is open, and it
-    pub tied: bool,
-    pub tie: Tie,
-    // whether a chord was opened, and the last one
-    pub sounded: bool,
-    pub chord: Chord,
+    // the open tie-out
+    pub tie: Option<Tie>,
+    // the last chord that was opened
+    pub chord: Option<Chord>,
     // no note before this one starts with a later chord
     pub from: usize,
 }
@@ -91,13 +88,7 @@ fn ticks_of(p: u64, code: u32, dots: u32) -> u64
 fn unmarked(i: Item) -> bool
     ensures { result ≡ (not i.tie_in && not i.tie_out && not i.unpitched) }
 {
-    if i.tie_in {
-        return false;
-    }
-    if i.tie_out {
-        return false;
-    }
-    !i.unpitched
+    !i.tie_in && !i.tie_out && !i.unpitched
 }
 
 // Whether a rest has no keys or marks, and another item a key.
@@ -136,17 +127,10 @@ fn same_keys(i: Item, t: Tie) -> bool
 fn meets(v: Voice, i: Item, p: u64) -> bool
     ensures { result ≡ meets? (tie_of v) (timed_at p v i) }
 {
-    if v.tied {
-        let t = v.tie;
-        if !i.tie_in {
-            return false;
-        }
-        if v.tick != t.tick {
-            return false;
-        }
-        return same_keys(i, t);
+    match v.tie {
+        Some(t) => i.tie_in && v.tick == t.tick && same_keys(i, t),
+        None => !i.tie_in,
     }
-    !i.tie_in
 }
 
 // Whether the item can follow: its value, its keys and marks, and its tie-in.
@@ -154,17 +138,13 @@ fn item_fits(v: Voice, i: Item, p: u64) -> bool
     requires { (p ≤ 65535) × (i.dots ≤ 1) }
     ensures { result ≡ fits? p (tie_of v) (timed_at p v i) }
 {
-    if is_value(p, i.code, i.dots) {
-        if is_clean(i) {
-            return meets(v, i, p);
-        }
-    }
-    false
+    is_value(p, i.code, i.dots) && is_clean(i) && meets(v, i, p)
 }
 
 // ---- chords
 
-// The last chord is closed: it ends with a note of its start, at the tick `next`, or at the last bar's end.
+// The last chord is closed, where it ends with a note of its start, at the tick `next`, or at the last bar's end.
+// The answer is the voice's new `from`.
 pub fn close_chord(
     work: &mut [u64],
     n: usize,
@@ -173,47 +153,73 @@ pub fn close_chord(
     e: u64,
     v: Voice,
     next: u64,
-) -> Voice
-    requires { Readable g n m work.old × Paced g n m work.old v × (v.ok ≡ true) }
+) -> Option<usize>
+    requires { Readable g n m work.old × Paced g n m work.old v }
     ensures { Closes g n m e next work.old work.new v result }
 {
-    if v.sounded {
-        let c = v.chord;
-        let x = proofread_notes::check_chord(work, n, m, g, e, v.from, c, next);
-        let mut r = v;
-        r.ok = x.ok;
-        r.from = x.from;
-        return r;
+    match v.chord {
+        Some(c) => proofread_notes::check_chord(work, n, m, g, e, v.from, c, next),
+        None => Some(v.from),
     }
-    v
+}
+
+// The last chord, prolonged to the tick `end`.
+fn prolonged(chord: Option<Chord>, end: u64) -> Option<Chord>
+    ensures { (as_chord result ≡ prolonged_to end (as_chord chord)) × (last_start result ≡ last_start chord) }
+{
+    match chord {
+        Some(c) => Some(Chord { end, ..c }),
+        None => None,
+    }
 }
 
 // Plays the item, which ends at the tick `end`: one without tie-in that is no rest opens a chord, one with tie-in prolongs the last.
-fn sound(work: &mut [u64], n: usize, m: usize, g: u64, e: u64, v: Voice, i: Item, end: u64) -> Voice
-    requires { Readable g n m work.old × Paced g n m work.old v × (v.ok ≡ true) }
+fn sound(
+    work: &mut [u64],
+    n: usize,
+    m: usize,
+    g: u64,
+    e: u64,
+    v: Voice,
+    i: Item,
+    end: u64,
+) -> Option<Voice>
+    requires { Readable g n m work.old × Paced g n m work.old v }
     ensures { Sounds g n m e i end work.old work.new v result }
 {
     if i.rest {
-        return v;
+        return Some(v);
     }
     if i.tie_in {
-        let mut c = v.chord;
-        c.end = end;
-        let mut r = v;
-        r.chord = c;
-        return r;
+        let chord = prolonged(v.chord, end);
+        return Some(Voice { chord, ..v });
     }
-    let mut r = close_chord(work, n, m, g, e, v, v.tick);
-    let c = Chord {
+    let from = close_chord(work, n, m, g, e, v, v.tick)?;
+    let chord = Chord {
         start: v.tick,
         end,
         low: i.low,
         high: i.high,
         unpitched: i.unpitched,
     };
-    r.sounded = true;
-    r.chord = c;
-    r
+    Some(Voice {
+        chord: Some(chord),
+        from,
+        ..v
+    })
+}
+
+// The tie-out that the item leaves open at the tick `end`.
+fn tie_out(i: Item, end: u64) -> Option<Tie>
+    ensures { as_tie result ≡ tie_left i end }
+{
+    let tie = Tie {
+        tick: end,
+        low: i.low,
+        high: i.high,
+        unpitched: i.unpitched,
+    };
+    if i.tie_out { Some(tie) } else { None }
 }
 
 // Takes one item.
@@ -226,27 +232,21 @@ fn take_item(
     p: u64,
     v: Voice,
     i: Item,
-) -> Voice
-    requires { Readable g n m work.old × Paced g n m work.old v × (v.ok ≡ true) × (p ≤ 65535) × (i.dots ≤ 1) × (v.tick < 2 ^ 60) }
+) -> Option<Voice>
+    requires { Readable g n m work.old × Paced g n m work.old v × (p ≤ 65535) × (i.dots ≤ 1) × (v.tick < 2 ^ 60) }
     ensures { Takes g n m e p i work.old work.new v result }
 {
-    if item_fits(v, i, p) {
-        let end = v.tick + ticks_of(p, i.code, i.dots);
-        let mut r = sound(work, n, m, g, e, v, i, end);
-        let t = Tie {
-            tick: end,
-            low: i.low,
-            high: i.high,
-            unpitched: i.unpitched,
-        };
-        r.tick = end;
-        r.tied = i.tie_out;
-        r.tie = t;
-        return r;
+    if !item_fits(v, i, p) {
+        return None;
     }
-    let mut r = v;
-    r.ok = false;
-    r
+    let end = v.tick + ticks_of(p, i.code, i.dots);
+    let r = sound(work, n, m, g, e, v, i, end)?;
+    let tie = tie_out(i, end);
+    Some(Voice {
+        tick: end,
+        tie,
+        ..r
+    })
 }
 
 // Takes the items of a voice in a bar, `count` of them from the item `first` on.
@@ -262,8 +262,8 @@ pub fn take_items(
     first: usize,
     count: usize,
     v: Voice,
-) -> Voice
-    requires { Readable g n m work.old × Paced g n m work.old v × (v.ok ≡ true) × (p ≤ 65535) × (v.tick < 2 ^ 50)
+) -> Option<Voice>
+    requires { Readable g n m work.old × Paced g n m work.old v × (p ≤ 65535) × (v.tick < 2 ^ 50)
         × (count < 2 ^ 32) × (first + count ≤ length heads.now) × (2 * length heads.now ≤ length keys.now) }
     ensures { TakesAll g n m e p (take count (drop first (read_items heads.now keys.now))) work.old work.new v result }
 {
@@ -271,10 +271,7 @@ pub fn take_items(
     for i in 0..count {
         let k = first + i;
         let item = item_of(heads[k], keys[2 * k], keys[2 * k + 1]);
-        r = take_item(work, n, m, g, e, p, r, item);
-        if !r.ok {
-            return r;
-        }
+        r = take_item(work, n, m, g, e, p, r, item)?;
     }
-    r
+    Some(r)
 }

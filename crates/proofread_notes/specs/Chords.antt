@@ -1,5 +1,6 @@
 -- A chord held against the notes of its start.
-use Rattle.std.specs.Prelude.{ℕ, ◌+◌, ◌*◌, ◌^◌, ◌<◌, max, Bool, cond, ◌&&◌, ◌||◌, List, ◌∷◌, ◌≡◌, eqb, ltb, get_or, set}
+use Rattle.std.specs.Prelude.{ℕ, ◌+◌, ◌*◌, ◌^◌, ◌<◌, max, Bool, cond, ◌&&◌, ◌||◌, List, ◌∷◌, Option, IfSome, ◌≡◌, eqb, ltb, get_or, set}
+use Rattle.std.specs.Option.{is_some}
 use Rattle.std.specs.Int.Bits.{bit_or}
 use Rattle.rules.specs.Lists.{any, bit, flag}
 use Rattle.rules.specs.RawNotes.{RawNote}
@@ -8,7 +9,6 @@ use Rattle.rules.specs.ProofReaderTests.{has_key?, keys_meant?, ends_with_note?}
 use Rattle.proofread_notes.specs.Columns.{snap_at, notes_at, Same, Skipped, hears?, Marks}
 use Rattle.proofread_notes.specs.declared.Chord.{Chord}
 use Rattle.proofread_notes.specs.declared.Group.{Group}
-use Rattle.proofread_notes.specs.declared.Checked.{Checked}
 
 abbrev pub keys_of : Chord → ℕ
 keys_of c = c.low + c.high * 2 ^ 64
@@ -60,8 +60,8 @@ pub record Scanned (g n m : ℕ) (c : Chord) (w w' : List ℕ) (x : Group) : Typ
 
 -- ---- the whole
 
-pub record Checks (g n m e : ℕ) (c : Chord) (next : ℕ) (w w' : List ℕ) (r : Checked) : Type 0 where
-  pub ok : r.ok ≡ chord_ok? e (notes_at g n m w) (played_of c) next
+pub record Checks (g n m e : ℕ) (c : Chord) (next : ℕ) (w w' : List ℕ) (r : Option ℕ) : Type 0 where
+  pub ok : is_some r ≡ chord_ok? e (notes_at g n m w) (played_of c) next
   pub same : Same n w w'
-  pub skipped : Skipped g n m w c.start r.from
+  pub skipped : IfSome r (Skipped g n m w c.start)
   pub marks : (cs : List Played) → Marks g n m w cs → Marks g n m w' (played_of c ∷ cs)

@@ -31,13 +31,6 @@ pub struct Group {
     pub ended: bool,
 }
 
-// Whether a chord is as the notes mean it, and the first note that does not start before it.
-#[derive(Clone, Copy)]
-pub struct Checked {
-    pub ok: bool,
-    pub from: usize,
-}
-
 // Snapping to the grid.
 fn snap_to(g: u64, t: u64) -> u64
     requires { (0 < g) × (g ≤ 65535) × (t ≤ 2 ^ 47) }
@@ -167,7 +160,7 @@ fn end_meant(c: Chord, x: Group, next: u64, e: u64) -> bool
 }
 
 // Holds a chord against the notes: its keys are theirs, and it ends with one of them, at its voice's next chord, or at the last bar's end.
-// The notes whose keys it has are marked.
+// Where it is right the answer is the first note that does not start before it. The notes whose keys it has are marked.
 pub fn check_chord(
     work: &mut [u64],
     n: usize,
@@ -177,21 +170,16 @@ pub fn check_chord(
     from: usize,
     c: Chord,
     next: u64,
-) -> Checked
+) -> Option<usize>
     requires { Readable g n m work.old × (from ≤ m) × Before g n work.old from c.start }
     ensures { Checks g n m e c next work.old work.new result }
 {
     let at = skip(work, n, m, g, from, c.start);
     let x = scan(work, n, m, g, at, c);
-    if keys_meant(c, x, e) {
-        return Checked {
-            ok: end_meant(c, x, next, e),
-            from: at,
-        };
-    }
-    Checked {
-        ok: false,
-        from: at,
+    if keys_meant(c, x, e) && end_meant(c, x, next, e) {
+        Some(at)
+    } else {
+        None
     }
 }
 

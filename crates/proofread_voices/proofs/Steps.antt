@@ -7,15 +7,16 @@ use mathlib.Core.Path.{◌≡◌, refl, sym, ap, subst, ◌∙◌}
 use native.Mathlib.Omega.{arith}
 use borrow.Author.Tests.{eq-eqb, ne_eqb, eqb-true}
 use lib.Dec.{eqb}
+use Rattle.std.specs.Prelude as std
+use Rattle.std.specs.Option.{is_some}
 use Rattle.rules.specs.Lists.{sum, is_empty}
 use Rattle.rules.specs.Bars.{Bar}
 use Rattle.rules.specs.Items.{Item}
 use Rattle.rules.specs.ProofReader.{item_ticks, timed_from, Played}
 use Rattle.rules.specs.ProofReaderTests.{free_at?}
 use Rattle.proofread_notes.specs.Columns.{notes_at}
-use Rattle.proofread_notes.specs.declared.Chord.{Chord}
 use Rattle.proofread_notes.proofs.Areas.{same_self}
-use Rattle.proofread_items.specs.Playing.{Heard, run, tie_of, chord_of, heard_of, Closes, Holds, TakesAll}
+use Rattle.proofread_items.specs.Playing.{Heard, run, tie_of, heard_of, Closes, Holds, TakesAll}
 use Rattle.proofread_items.specs.declared.Voice.{Voice}
 use Rattle.proofread_items.proofs.Steps.{heard_is}
 use Rattle.laws.proofs.Order.{by_eq}
@@ -56,55 +57,50 @@ full_reached p v start until is l h =
     others [] q = omega arith
     others (i ∷ is) q = let r = eqb-true (start + sum (map (item_ticks p) (i ∷ is))) until q in omega arith
 
--- `at` is the voice at the bar's start, s the same after its items
-module _ {g n m e p start : ℕ} (until v : ℕ) {is : List Item} {w w' : List ℕ} (voice : Voice) {s : Voice} (at : Voice)
+-- `at` is the voice at the bar's start
+module _ (g n m e p start until v : ℕ) (is : List Item) (w : List ℕ) (voice at : Voice)
     (same : (cs : List Played) → heard_of at cs ≡ heard_of voice cs)
-    (tick : at.tick ≡ start) (t : TakesAll g n m e p is w w' at s) where
+    (tick : at.tick ≡ start) where
   abbrev heard : List Played → Heard
   heard cs = run p e (notes_at g n m w) (heard_of voice cs) (timed_from p start is)
 
   from_start : (cs : List Played) → run p e (notes_at g n m w) (heard_of at cs) (timed_from p at.tick is) ≡ heard cs
   from_start cs = λ i. run p e (notes_at g n m w) (same cs i) (timed_from p (tick i) is)
 
-  pub bar_fails : s.ok ≡ false → ReadsBar g n m e p v start until is w w' voice s
-  bar_fails f =
-      record {
-        same = t.hears.same;
-        fails = λ o cs c. rw (sym (ap (λ (a : Heard). a.ok) (from_start cs)) ∙ t.hears.fails f cs c);
-        goes = λ o. absurd (true≢false (sym o ∙ f));
-        within = λ o. absurd (true≢false (sym o ∙ f));
-        before = λ o. absurd (true≢false (sym o ∙ f));
-        reached = λ o. absurd (true≢false (sym o ∙ f));
-        ticked = λ o. absurd (true≢false (sym o ∙ f));
-      }
+  pub bar_fails : {w' : List ℕ} → TakesAll g n m e p is w w' at std.None → ReadsBar g n m e p v start until is w w' voice std.None
+  bar_fails t =
+      record { same = t.hears.same; is_read = λ cs c. rw (sym (ap (λ (a : Heard). a.ok) (from_start cs)) ∙ t.hears.is cs c) }
 
-  -- r is s with the test at the bar's end
-  pub bar_full : {r : Voice} → start ≤ until → s.ok ≡ true → r.ok ≡ full? p v start until is → tie_of r ≡ tie_of s → chord_of r ≡ chord_of s
-      → r.from ≡ s.from → r.chord ≡ s.chord → r.tick ≡ s.tick
-      → ReadsBar g n m e p v start until is w w' voice r
-  bar_full {r} l ok o tie chord from last at_tick =
-      let st : r.chord.start ≡ s.chord.start = ap (λ (x : Chord). x.start) last in
-      let pace = t.hears.paced ok in
+  pub bar_short : {w' : List ℕ} {s : Voice} → full? p v start until is ≡ false → TakesAll g n m e p is w w' at (std.Some s)
+      → ReadsBar g n m e p v start until is w w' voice std.None
+  bar_short f t = record { same = t.hears.same; is_read = λ cs c. rw f (and-false (heard cs).ok) }
+
+  pub bar_full : {w' : List ℕ} {s : Voice} → start ≤ until → full? p v start until is ≡ true → TakesAll g n m e p is w w' at (std.Some s)
+      → ReadsBar g n m e p v start until is w w' voice (std.Some s)
+  bar_full {w'} {s} l f t =
+      let pace = t.hears.is.paced in
       record {
         same = t.hears.same;
-        fails = λ f cs c. rw (sym o ∙ f) (and-false (heard cs).ok);
-        goes =
-            λ y cs c.
-            let held : Holds g n m w' (heard cs) s = subst (λ (a : Heard). Holds g n m w' a s) (from_start cs) (t.hears.goes ok cs c) in
-            let fine : (heard cs).ok ≡ true = sym (ap (λ (a : Heard). a.ok) held.is) ∙ ok in
+        is_read =
             record {
-              marks = held.marks;
-              is = heard_is (rw fine o) (tie ∙ ap (λ (a : Heard). a.tie) held.is) (chord ∙ ap (λ (a : Heard). a.chord) held.is) refl;
+              holds =
+                  λ cs c.
+                  let held : Holds g n m w' (heard cs) s = subst (λ (a : Heard). Holds g n m w' a s) (from_start cs) (t.hears.is.holds cs c) in
+                  let fine : (heard cs).ok ≡ true = sym (ap (λ (a : Heard). a.ok) held.is) in
+                  record {
+                    marks = held.marks;
+                    is = heard_is (rw (fine, f)) (ap (λ (a : Heard). a.tie) held.is) (ap (λ (a : Heard). a.chord) held.is) refl;
+                  };
+              within = pace.within;
+              before = pace.before;
+              reached = omega (arith, pace.reached, t.tick, full_reached p v start until is l f);
+              ticked = pace.reached;
             };
-        within = λ y. omega (arith, pace.within);
-        before = λ y. rw (from, st) pace.before;
-        reached = λ y. omega (arith, pace.reached, t.tick ok, full_reached p v start until is l (sym o ∙ y));
-        ticked = λ y. omega (arith, pace.reached);
       }
 
 -- ---- the voice's end
 module _ {g n m e : ℕ} {w w' : List ℕ} {v : Voice} where
-  pub ends_closed : {r : Voice} → free_at? e (tie_of v) ≡ true → Closes g n m e e w w' v r → EndsVoice g n m e w w' v r.ok
+  pub ends_closed : {r : std.Option ℕ} → free_at? e (tie_of v) ≡ true → Closes g n m e e w w' v r → EndsVoice g n m e w w' v (is_some r)
   ends_closed f c = record { same = c.same; ok = rw f c.ok; marks = λ t. c.marks }
 
 pub ends_tied : {g n m e : ℕ} {w : List ℕ} {v : Voice} → free_at? e (tie_of v) ≡ false → EndsVoice g n m e w w v false

@@ -1,10 +1,11 @@
 -- A voice read bar by bar: what is still to be heard of it, with the walk along the bars and the counts passed.
 use Prim.Native.Nat.{ℕ, suc, ◌+◌, ◌-◌, ◌*◌, ◌^◌, ◌≤◌, ◌<◌}
-use mathlib.Core.Bool.{Bool, true, false, ◌&&◌, true≢false}
+use mathlib.Core.Bool.{Bool, false, ◌&&◌, true≢false}
 use mathlib.Core.List.{List, [], ◌∷◌}
 use mathlib.Core.Logic.{inl, inr}
 use mathlib.Core.Path.{◌≡◌, refl, sym, ap, subst, ◌∙◌}
 use native.Mathlib.Omega.{arith}
+use Rattle.std.specs.Prelude as std
 use lib.ListN.{length, get_or, take, drop, length-drop}
 use lib.Seq.{drop-drop, get_or-drop}
 use Rattle.rules.specs.Lists.{sum}
@@ -22,7 +23,7 @@ use Rattle.laws.proofs.BarLaws.{bar_at, bars_last, bars_more}
 use Rattle.laws.proofs.Order.{by_lt}
 use Rattle.proofread_notes.specs.Columns.{notes_at, Same, Before, Marks}
 use Rattle.proofread_notes.proofs.Areas.{same_self, same_then, notes_same}
-use Rattle.proofread_items.specs.Playing.{Heard, last_ok?, closed_with, run, tie_of, chord_of, heard_of, Paced}
+use Rattle.proofread_items.specs.Playing.{Heard, last_ok?, closed_with, run, tie_of, chord_of, last_start, heard_of, Paced}
 use Rattle.proofread_items.specs.declared.Voice.{Voice}
 use Rattle.proofread_items.proofs.Reading.{run_failed}
 use Rattle.proofread_voices.specs.Voices.{with_ok, voice_run, silent, voice_ok?, full?, filled?, Fits, NewVoice, ReadsBar, EndsVoice, ReadsVoice}
@@ -60,19 +61,19 @@ one_bar p e ns v a b bs cs xs h l =
     rw (four_cut cs xs h)
     (rw (four_voice cs xs v l, ← full_is p v b (items_in cs xs v)))
 
-module _ {g n m e p v : ℕ} {ns : List RawNote} {goal : Heard} {b : Bar} {bs : List Bar} (cs : List ℕ) (xs : List Item) {w w' : List ℕ} {voice r : Voice}
+module _ {g n m e p v : ℕ} {ns : List RawNote} {goal : Heard} {b : Bar} {bs : List Bar} (cs : List ℕ) (xs : List Item) {w : List ℕ} {voice : Voice}
     (h : 4 ≤ length cs) (l : v < 4)
-    (known : notes_at g n m w ≡ ns) (now : Coming g n m e p v ns goal (b ∷ bs) (by_fours (cut_by cs xs)) w voice)
-    (read : ReadsBar g n m e p v b.start (b.start + b.len) (items_in cs xs v) w w' voice r) where
-  coming_fails : r.ok ≡ false → goal.ok ≡ false
-  coming_fails f =
+    (known : notes_at g n m w ≡ ns) (now : Coming g n m e p v ns goal (b ∷ bs) (by_fours (cut_by cs xs)) w voice) where
+  coming_fails : {w' : List ℕ} → ReadsBar g n m e p v b.start (b.start + b.len) (items_in cs xs v) w w' voice std.None → goal.ok ≡ false
+  coming_fails read =
       sym (ap (λ (a : Heard). a.ok) (sym (one_bar p e ns v (heard_of voice now.closed) b bs cs xs h l) ∙ now.same))
       ∙ voice_failed p e ns v (after_bar p e ns v (heard_of voice now.closed) b (items_in cs xs v)) bs (by_fours (cut_by (drop 4 cs) (drop (sum (take 4 cs)) xs)))
-      (rw known at (read.fails f now.closed now.marks))
+      (rw known at (read.is_read now.closed now.marks))
 
-  coming_goes : r.ok ≡ true → Coming g n m e p v ns goal bs (by_fours (cut_by (drop 4 cs) (drop (sum (take 4 cs)) xs))) w' r
-  coming_goes y =
-      let held = rw known at (read.goes y now.closed now.marks) in
+  coming_goes : {w' : List ℕ} {r : Voice} → ReadsBar g n m e p v b.start (b.start + b.len) (items_in cs xs v) w w' voice (std.Some r)
+      → Coming g n m e p v ns goal bs (by_fours (cut_by (drop 4 cs) (drop (sum (take 4 cs)) xs))) w' r
+  coming_goes read =
+      let held = rw known at (read.is_read.holds now.closed now.marks) in
       record {
         closed = (after_bar p e ns v (heard_of voice now.closed) b (items_in cs xs v)).closed;
         marks = held.marks;
@@ -117,23 +118,21 @@ module _ (ds ws : List ℕ) (p end limit : ℕ) (counts hs ks : List ℕ) (g n m
     pub walking : Walking ds ws p walker
     pub counted : 4 * bar + 4 * length (bars_ahead ds ws end (limit - bar) walker) ≡ length counts
     pub passed : first ≡ sum (take (4 * bar) counts)
-    pub ok : voice.ok ≡ true
     pub area : Same n w₀ w
     pub within : voice.from ≤ m
-    pub before : Before g n w voice.from voice.chord.start
-    pub reached : voice.chord.start ≤ walker.start
-    pub ticked : voice.chord.start ≤ voice.tick
+    pub before : Before g n w voice.from (last_start voice.chord)
+    pub reached : last_start voice.chord ≤ walker.start
+    pub ticked : last_start voice.chord ≤ voice.tick
     pub hears : (cs : List Played) → Marks g n m w₀ cs
         → Coming g n m e p v (notes_at g n m w₀) (heard_by ds ws p end limit counts hs ks e (notes_at g n m w₀) v cs)
         (bars_ahead ds ws end (limit - bar) walker) (staff_from counts hs ks bar first) w voice
 
   -- all bars are past
   pub record Past (w : List ℕ) (voice : Voice) : Type 0 where
-    pub ok : voice.ok ≡ true
     pub area : Same n w₀ w
     pub within : voice.from ≤ m
-    pub before : Before g n w voice.from voice.chord.start
-    pub ticked : voice.chord.start ≤ voice.tick
+    pub before : Before g n w voice.from (last_start voice.chord)
+    pub ticked : last_start voice.chord ≤ voice.tick
     pub hears : (cs : List Played) → Marks g n m w₀ cs
         → Coming g n m e p v (notes_at g n m w₀) (heard_by ds ws p end limit counts hs ks e (notes_at g n m w₀) v cs) [] [] w voice
 
@@ -148,7 +147,6 @@ module _ {ds ws : List ℕ} {p end limit : ℕ} {counts hs ks : List ℕ} {g n m
         walking = walking_start s;
         counted = omega (arith, ap length all, fits.bars);
         passed = refl;
-        ok = new.ok;
         area = same_self n w₀;
         within = omega (arith, new.from);
         before = record { earlier = λ j h. absurd (omega (arith, new.from)) };
@@ -163,7 +161,6 @@ module _ {ds ws : List ℕ} {p end limit : ℕ} {counts hs ks : List ℕ} {g n m
     unfolding voice_run
     along_end h =
         record {
-          ok = now.ok;
           area = now.area;
           within = now.within;
           before = now.before;
@@ -194,19 +191,21 @@ module _ {ds ws : List ℕ} {p end limit : ℕ} {counts hs ks : List ℕ} {g n m
       pub four_fit : Fits (bars_in limit p (events_of ds ws) end) counts hs ks → first + sum (take 4 (drop (4 * bar) counts)) ≤ length hs
       four_fit fits = omega (arith, now.passed, sum_next counts (4 * bar) 4, sum_part counts (4 * bar + 4), fits.heads_fit)
 
-      module _ {w' : List ℕ} {r : Voice} (room : m ≤ n) (l : v < 4)
-          (read : ReadsBar g n m e p v walker.start (next_of walker).start
-          (take (get_or counts (4 * bar + v) 0) (drop (first + sum (take v (drop (4 * bar) counts))) (read_items hs ks))) w w' voice r) where
-        is_here : take (get_or counts (4 * bar + v) 0) (drop (first + sum (take v (drop (4 * bar) counts))) (read_items hs ks))
-            ≡ items_in (drop (4 * bar) counts) (drop first (read_items hs ks)) v
+      -- the items of the voice in the bar
+      abbrev here : List Item
+      here = take (get_or counts (4 * bar + v) 0) (drop (first + sum (take v (drop (4 * bar) counts))) (read_items hs ks))
+
+      module _ (room : m ≤ n) (l : v < 4) where
+        is_here : here ≡ items_in (drop (4 * bar) counts) (drop first (read_items hs ks)) v
         is_here = rw (get_or-drop, drop-drop)
 
         is_next : by_fours (cut_by (drop 4 (drop (4 * bar) counts)) (drop (sum (take 4 (drop (4 * bar) counts))) (drop first (read_items hs ks))))
             ≡ staff_from counts hs ks (bar + 1) (first + sum (take 4 (drop (4 * bar) counts)))
         is_next = let q : 4 * bar + 4 ≡ 4 * (bar + 1) = omega arith in rw (drop-drop, drop-drop, q)
 
-        read' : ReadsBar g n m e p v walker.start (next_of walker).start (items_in (drop (4 * bar) counts) (drop first (read_items hs ks)) v) w w' voice r
-        read' = subst (λ (is : List Item). ReadsBar g n m e p v walker.start (next_of walker).start is w w' voice r) is_here read
+        read_here : {w' : List ℕ} {r : std.Option Voice} → ReadsBar g n m e p v walker.start (next_of walker).start here w w' voice r
+            → ReadsBar g n m e p v walker.start (next_of walker).start (items_in (drop (4 * bar) counts) (drop first (read_items hs ks)) v) w w' voice r
+        read_here {w'} {r} read = subst (λ (is : List Item). ReadsBar g n m e p v walker.start (next_of walker).start is w w' voice r) is_here read
 
         known : notes_at g n m w ≡ notes_at g n m w₀
         known = notes_same now.area g m room
@@ -224,42 +223,43 @@ module _ {ds ws : List ℕ} {p end limit : ℕ} {counts hs ks : List ℕ} {g n m
             q (now.hears cs c)
 
         -- and what is to come after it
-        rest_here : r.ok ≡ true → (tail : List Bar) → bars_ahead ds ws end (limit - bar) walker ≡ bar_of walker ∷ tail → (cs : List Played) → Marks g n m w₀ cs
+        rest_here : {w' : List ℕ} {r : Voice} → ReadsBar g n m e p v walker.start (next_of walker).start here w w' voice (std.Some r)
+            → (tail : List Bar) → bars_ahead ds ws end (limit - bar) walker ≡ bar_of walker ∷ tail → (cs : List Played) → Marks g n m w₀ cs
             → Coming g n m e p v (notes_at g n m w₀) (heard_by ds ws p end limit counts hs ks e (notes_at g n m w₀) v cs) tail
             (staff_from counts hs ks (bar + 1) (first + sum (take 4 (drop (4 * bar) counts)))) w' r
-        rest_here y tail q cs c =
+        rest_here {w'} {r} read tail q cs c =
             subst
             (λ (st : Staff). Coming g n m e p v (notes_at g n m w₀) (heard_by ds ws p end limit counts hs ks e (notes_at g n m w₀) v cs) tail st w' r)
             is_next
-            (coming_goes (drop (4 * bar) counts) (drop first (read_items hs ks)) four l known (first_here tail q cs c) read' y)
+            (coming_goes (drop (4 * bar) counts) (drop first (read_items hs ks)) four l known (first_here tail q cs c) (read_here read))
 
-        pub along_fails : r.ok ≡ false → ReadsVoice g n m e p v (bars_in limit p (events_of ds ws) end) (staff_of counts hs ks) w₀ w' false
-        along_fails f =
+        pub along_fails : {w' : List ℕ} → ReadsBar g n m e p v walker.start (next_of walker).start here w w' voice std.None
+            → ReadsVoice g n m e p v (bars_in limit p (events_of ds ws) end) (staff_of counts hs ks) w₀ w' false
+        along_fails read =
             let t = first_ahead now.walking.bar end some_left in
             record {
               same = same_then now.area read.same;
-              ok = λ cs c. rw (coming_fails (drop (4 * bar) counts) (drop first (read_items hs ks)) four l known (first_here t.0 t.1 cs c) read' f);
+              ok = λ cs c. rw (coming_fails (drop (4 * bar) counts) (drop first (read_items hs ks)) four l known (first_here t.0 t.1 cs c) (read_here read));
               marks = λ y. absurd (true≢false (sym y));
             }
 
-        pub along_last : r.ok ≡ true → end ≤ (next_of walker).start → Past ds ws p end limit counts hs ks g n m e v w₀ w' r
+        pub along_last : {w' : List ℕ} {r : Voice} → ReadsBar g n m e p v walker.start (next_of walker).start here w w' voice (std.Some r) → end ≤ (next_of walker).start → Past ds ws p end limit counts hs ks g n m e v w₀ w' r
         unfolding voice_run
-        along_last y last =
+        along_last read last =
             record {
-              ok = y;
               area = same_then now.area read.same;
-              within = read.within y;
-              before = read.before y;
-              ticked = read.ticked y;
+              within = read.is_read.within;
+              before = read.is_read.before;
+              ticked = read.is_read.ticked;
               hears =
                   λ cs c.
-                  let x = rest_here y [] (ahead_last now.walking.bar end some_left last) cs c in
+                  let x = rest_here read [] (ahead_last now.walking.bar end some_left last) cs c in
                   record { closed = x.closed; marks = x.marks; same = x.same };
             }
 
-        pub along_more : {next : Walker} → r.ok ≡ true → end < 2 ^ 48 → Settled ds ws (next_of walker) next → (next_of walker).start < end
+        pub along_more : {next : Walker} {w' : List ℕ} {r : Voice} → ReadsBar g n m e p v walker.start (next_of walker).start here w w' voice (std.Some r) → end < 2 ^ 48 → Settled ds ws (next_of walker) next → (next_of walker).start < end
             → Along ds ws p end limit counts hs ks g n m e v w₀ next (bar + 1) (first + sum (take 4 (drop (4 * bar) counts))) w' r
-        along_more {next} y small s on =
+        along_more {next} read small s on =
             let step = ahead_more now.walking.bar end some_left s on in
             record {
               walking = walking_on now.walking s end small on;
@@ -267,13 +267,12 @@ module _ {ds ws : List ℕ} {p end limit : ℕ} {counts hs ks : List ℕ} {g n m
               passed =
                   let q : 4 * (bar + 1) ≡ 4 * bar + 4 = omega arith in
                   rw q (sym (sum_next counts (4 * bar) 4 ∙ ap (λ (x : ℕ). x + sum (take 4 (drop (4 * bar) counts))) (sym now.passed)));
-              ok = y;
               area = same_then now.area read.same;
-              within = read.within y;
-              before = read.before y;
-              reached = omega (arith, read.reached y, s.same.start);
-              ticked = read.ticked y;
-              hears = rest_here y (bars_ahead ds ws end (limit - (bar + 1)) next) step;
+              within = read.is_read.within;
+              before = read.is_read.before;
+              reached = omega (arith, read.is_read.reached, s.same.start);
+              ticked = read.is_read.ticked;
+              hears = rest_here read (bars_ahead ds ws end (limit - (bar + 1)) next) step;
             }
 
   pub past_paced : {w : List ℕ} {voice : Voice} → Past ds ws p end limit counts hs ks g n m e v w₀ w voice → Paced g n m w voice
@@ -296,7 +295,7 @@ module _ {ds ws : List ℕ} {p end limit : ℕ} {counts hs ks : List ℕ} {g n m
           same = same_then past.area ends.same;
           ok =
               λ cs c.
-              rw known_end at ends.ok ∙ rw past.ok at (the_end cs c);
+              rw known_end at ends.ok ∙ the_end cs c;
           marks =
               λ y cs c.
               subst (λ (a : Heard). Marks g n m w' (closed_with a.chord a.closed)) (is_heard cs c)
@@ -304,6 +303,6 @@ module _ {ds ws : List ℕ} {p end limit : ℕ} {counts hs ks : List ℕ} {g n m
         }
       where
         the_end : (cs : List Played) (c : Marks g n m w₀ cs)
-            → (voice.ok && free_at? e (tie_of voice) && last_ok? e (notes_at g n m w₀) (chord_of voice) e)
+            → (free_at? e (tie_of voice) && last_ok? e (notes_at g n m w₀) (chord_of voice) e)
             ≡ voice_ok? e (notes_at g n m w₀) (heard_by ds ws p end limit counts hs ks e (notes_at g n m w₀) v cs)
         the_end cs c = ap (voice_ok? e (notes_at g n m w₀)) (is_heard cs c)

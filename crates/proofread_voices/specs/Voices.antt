@@ -1,4 +1,5 @@
 -- A voice through the bars: what is heard of it, and what the steps of the code promise.
+use Rattle.std.specs.Prelude as std
 use Rattle.std.specs.Prelude.{ℕ, zero, suc, ◌+◌, ◌*◌, ◌≤◌, Bool, true, false, cond, ◌&&◌, List, [], ◌∷◌, map, ◌≡◌, eqb, length}
 use Rattle.std.proofs.Math.Option.{none}
 use Rattle.rules.specs.Lists.{sum, is_empty}
@@ -8,7 +9,7 @@ use Rattle.rules.specs.Items.{Item, Staff}
 use Rattle.rules.specs.ProofReader.{item_ticks, timed_from, voice_items, Played}
 use Rattle.rules.specs.ProofReaderTests.{fill?, empty_or_fill?, free_at?}
 use Rattle.proofread_notes.specs.Columns.{notes_at, Same, Before, Marks}
-use Rattle.proofread_items.specs.Playing.{Heard, last_ok?, closed_with, run, tie_of, chord_of, heard_of, Holds}
+use Rattle.proofread_items.specs.Playing.{Heard, last_ok?, closed_with, run, tie_of, chord_of, last_start, heard_of, Holds, Fails}
 use Rattle.proofread_items.specs.declared.Voice.{Voice}
 
 -- ---- what is heard
@@ -48,26 +49,31 @@ pub record Fits (bs : List Bar) (counts heads keys : List ℕ) : Type 0 where
   pub keys_fit : length keys ≡ 2 * sum counts
 
 pub record NewVoice (r : Voice) : Type 0 where
-  pub ok : r.ok ≡ true
   pub is : (cs : List Played) → heard_of r cs ≡ silent cs
   pub from : r.from ≡ 0
-  pub start : r.chord.start ≡ 0
+  pub start : last_start r.chord ≡ 0
 
 -- the test at a bar's end, the bar going from tick `start` to tick `until`
 abbrev pub full? : ℕ → ℕ → ℕ → ℕ → List Item → Bool
 full? p v start until is =
     cond (eqb v 0) (eqb (start + sum (map (item_ticks p) is)) until) (cond (is_empty is) true (eqb (start + sum (map (item_ticks p) is)) until))
 
-pub record ReadsBar (g n m e p v start until : ℕ) (is : List Item) (w w' : List ℕ) (voice r : Voice) : Type 0 where
+-- what is heard of the voice once the bar is read
+abbrev pub bar_heard : ℕ → ℕ → List RawNote → ℕ → ℕ → ℕ → List Item → Voice → List Played → Heard
+bar_heard p e ns v start until is voice cs = with_ok (run p e ns (heard_of voice cs) (timed_from p start is)) (full? p v start until is)
+
+-- the bar is read, and leaves the voice s
+pub record Reaches (g n m until : ℕ) (w w' : List ℕ) (heard : List Played → Heard) (s : Voice) : Type 0 where
+  pub holds : (cs : List Played) → Marks g n m w cs → Holds g n m w' (heard cs) s
+  pub within : s.from ≤ m
+  pub before : Before g n w' s.from (last_start s.chord)
+  pub reached : last_start s.chord ≤ until
+  pub ticked : last_start s.chord ≤ s.tick
+
+pub record ReadsBar (g n m e p v start until : ℕ) (is : List Item) (w w' : List ℕ) (voice : Voice) (r : std.Option Voice) : Type 0 where
   pub same : Same n w w'
-  pub fails : r.ok ≡ false → (cs : List Played) → Marks g n m w cs
-      → (with_ok (run p e (notes_at g n m w) (heard_of voice cs) (timed_from p start is)) (full? p v start until is)).ok ≡ false
-  pub goes : r.ok ≡ true → (cs : List Played) → Marks g n m w cs
-      → Holds g n m w' (with_ok (run p e (notes_at g n m w) (heard_of voice cs) (timed_from p start is)) (full? p v start until is)) r
-  pub within : r.ok ≡ true → r.from ≤ m
-  pub before : r.ok ≡ true → Before g n w' r.from r.chord.start
-  pub reached : r.ok ≡ true → r.chord.start ≤ until
-  pub ticked : r.ok ≡ true → r.chord.start ≤ r.tick
+  pub is_read : std.MatchOption r (Fails g n m w (bar_heard p e (notes_at g n m w) v start until is voice))
+      (Reaches g n m until w w' (bar_heard p e (notes_at g n m w) v start until is voice))
 
 pub record EndsVoice (g n m e : ℕ) (w w' : List ℕ) (v : Voice) (r : Bool) : Type 0 where
   pub same : Same n w w'

@@ -9,7 +9,7 @@ ghost use Rattle.rules.specs.ProofReaderTests.{free_at?};
 ghost use Rattle.track_events.specs.Track.{events_of};
 ghost use Rattle.bar_walk.specs.Walk.{CanWalk};
 ghost use Rattle.proofread_notes.specs.Columns.{Readable, Before};
-ghost use Rattle.proofread_items.specs.Playing.{tie_of, Paced};
+ghost use Rattle.proofread_items.specs.Playing.{tie_of, last_start, Paced};
 ghost use Rattle.proofread_voices.specs.Voices.{Fits, NewVoice, ReadsBar, EndsVoice, ReadsVoice};
 
 use proofread_items::Voice;
@@ -30,26 +30,10 @@ pub fn sum_counts(counts: &[u32], from: usize, n: usize) -> usize
 fn new_voice() -> Voice
     ensures { NewVoice result }
 {
-    let tie = proofread_items::Tie {
-        tick: 0,
-        low: 0,
-        high: 0,
-        unpitched: false,
-    };
-    let chord = proofread_notes::Chord {
-        start: 0,
-        end: 0,
-        low: 0,
-        high: 0,
-        unpitched: false,
-    };
     Voice {
-        ok: true,
         tick: 0,
-        tied: false,
-        tie,
-        sounded: false,
-        chord,
+        tie: None,
+        chord: None,
         from: 0,
     }
 }
@@ -61,10 +45,7 @@ fn is_full(v: usize, count: usize, tick: u64, until: u64) -> bool
     if v == 0 {
         return tick == until;
     }
-    if count == 0 {
-        return true;
-    }
-    tick == until
+    count == 0 || tick == until
 }
 
 // Reads a voice in a bar from `start` to `until`: `count` items from the item `first` on.
@@ -83,43 +64,40 @@ fn read_bar(
     start: u64,
     until: u64,
     voice: Voice,
-) -> Voice
-    requires { Readable g n m work.old × (voice.ok ≡ true) × (voice.from ≤ m) × Before g n work.old voice.from voice.chord.start
-        × (voice.chord.start ≤ start) × (p ≤ 65535) × (start < 2 ^ 50) × (start ≤ until)
+) -> Option<Voice>
+    requires { Readable g n m work.old × (voice.from ≤ m) × Before g n work.old voice.from (last_start voice.chord)
+        × (last_start voice.chord ≤ start) × (p ≤ 65535) × (start < 2 ^ 50) × (start ≤ until)
         × (count < 2 ^ 32) × (first + count ≤ length heads.now) × (2 * length heads.now ≤ length keys.now) }
     ensures { ReadsBar g n m e p v start until (take count (drop first (read_items heads.now keys.now))) work.old work.new voice result }
 {
-    let mut r = voice;
-    r.tick = start;
-    r = proofread_items::take_items(work, n, m, g, e, p, heads, keys, first, count, r);
-    if r.ok {
-        r.ok = is_full(v, count, r.tick, until);
-        return r;
+    let at = Voice {
+        tick: start,
+        ..voice
+    };
+    let r = proofread_items::take_items(work, n, m, g, e, p, heads, keys, first, count, at)?;
+    if is_full(v, count, r.tick, until) {
+        Some(r)
+    } else {
+        None
     }
-    r
 }
 
 // Whether the open tie-out, if there is one, stands at the tick e.
 fn free_at(v: Voice, e: u64) -> bool
     ensures { result ≡ free_at? e (tie_of v) }
 {
-    if v.tied {
-        let t = v.tie;
-        return t.tick == e;
+    match v.tie {
+        Some(t) => t.tick == e,
+        None => true,
     }
-    true
 }
 
 // The voice's end: a tie-out is free at the staff's end alone, and the last chord is closed.
 fn end_voice(work: &mut [u64], n: usize, m: usize, g: u64, e: u64, v: Voice) -> bool
-    requires { Readable g n m work.old × Paced g n m work.old v × (v.ok ≡ true) }
+    requires { Readable g n m work.old × Paced g n m work.old v }
     ensures { EndsVoice g n m e work.old work.new v result }
 {
-    if free_at(v, e) {
-        let r = proofread_items::close_chord(work, n, m, g, e, v, e);
-        return r.ok;
-    }
-    false
+    free_at(v, e) && proofread_items::close_chord(work, n, m, g, e, v, e).is_some()
 }
 
 // Reads voice v through all bars: the notes stand in the work area, e is the last bar's end.
@@ -151,7 +129,7 @@ pub fn read_voice(
         let next = walker.next_bar();
         let here = first + sum_counts(counts, 4 * bar, v);
         let count = counts[4 * bar + v] as usize;
-        voice = read_bar(
+        let Some(read) = read_bar(
             work,
             n,
             m,
@@ -166,10 +144,10 @@ pub fn read_voice(
             walker.start,
             next.start,
             voice,
-        );
-        if !voice.ok {
+        ) else {
             return false;
-        }
+        };
+        voice = read;
         first += sum_counts(counts, 4 * bar, 4);
         if end <= next.start {
             return end_voice(work, n, m, g, e, voice);

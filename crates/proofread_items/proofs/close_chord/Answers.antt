@@ -1,15 +1,12 @@
 -- `close_chord` holds the last chord against the notes, where there is one.
-use mathlib.Core.Path.{refl}
 use Rattle.proofread_items.proofs.Steps.{closes_chord, closes_none}
 use Rattle.proofread_items.proofs.close_chord.Goals as goal
 
-pub check_chord-x-requires : goal.check_chord-x-requires
-check_chord-x-requires c =
-    (c.requires.0, c.requires.1.within, c.requires.1.before)
+pub check_chord-requires : goal.check_chord-requires
+check_chord-requires c = (c.requires.0, c.requires.1.within, rw c.in-Some.is at c.requires.1.before)
 
-pub returns-then-v : goal.returns-then-v
-returns-then-v c =
-    closes_chord c.requires.0 c.if-v.true c.check_chord-x.ensures refl refl
+pub returns-in-Some : goal.returns-in-Some
+returns-in-Some c = closes_chord c.requires.0 c.in-Some.is c.check_chord.ensures
 
-pub returns : goal.returns
-returns c = closes_none c.if-v.false c.requires.2 c.requires.1
+pub returns-in-None : goal.returns-in-None
+returns-in-None c = closes_none c.in-None.is c.requires.1

@@ -2,34 +2,23 @@
 use Prim.Native.Nat.{ℕ, ◌+◌}
 use mathlib.Core.Path.{refl, sym, ap, ◌∙◌}
 use native.Mathlib.Omega.{arith}
-use Rattle.proofread_items.specs.Playing.{tie_of}
-use Rattle.proofread_items.proofs.Steps.{fits_code, takes_fit, takes_not}
+use Rattle.proofread_items.proofs.Steps.{takes_fit, takes_wrong, takes_not}
 use Rattle.proofread_items.proofs.take_item.Goals as goal
 
-pub ticks_of-requires : goal.ticks_of-requires
-ticks_of-requires c =
-    let a = c.args in (
-      c.requires.3,
-      fits_code a.p (tie_of a.v) a.v a.i (sym c.item_fits.ensures ∙ c.if-item_fits.true),
-      c.requires.4,
-    )
+pub returns-then-not-item_fits : goal.returns-then-not-item_fits
+returns-then-not-item_fits c =
+    takes_not c.args.i c.args.v (sym c.item_fits.ensures ∙ c.if-not-item_fits.true)
 
-pub overflow_add-end : goal.overflow_add-end
-overflow_add-end c = omega (arith, c.ticks_of.ensures.1, c.requires.5)
-
-pub sound-r-requires : goal.sound-r-requires
-sound-r-requires c =
-    (c.requires.0, c.requires.1, c.requires.2)
-
-pub returns-then-item_fits : goal.returns-then-item_fits
-returns-then-item_fits c =
+pub returns-in_err-r : goal.returns-in_err-r
+returns-in_err-r c =
     let a = c.args in
-    takes_fit a.i a.v c.requires.2 (a.v.tick + c.ticks_of.result)
-    (sym c.item_fits.ensures ∙ c.if-item_fits.true)
-    (ap (λ (t : ℕ). a.v.tick + t) c.ticks_of.ensures.0) (omega (arith, c.ticks_of.ensures.1))
-    c.sound-r.ensures refl refl refl refl refl refl refl
+    rw c.from_residual.ensures
+    (takes_wrong a.i a.v (a.v.tick + c.ticks_of.result) (sym c.item_fits.ensures ∙ c.if-not-item_fits.false)
+    (ap (λ (t : ℕ). a.v.tick + t) c.ticks_of.ensures.0) c.in_err-r.ensures)
 
 pub returns : goal.returns
 returns c =
     let a = c.args in
-    takes_not a.i a.v c.requires.2 (sym c.item_fits.ensures ∙ c.if-item_fits.false) refl
+    takes_fit a.i a.v (a.v.tick + c.ticks_of.result) (sym c.item_fits.ensures ∙ c.if-not-item_fits.false)
+    (ap (λ (t : ℕ). a.v.tick + t) c.ticks_of.ensures.0) (omega (arith, c.ticks_of.ensures.1)) c.in_ok-r.ensures refl
+    c.tie_out-tie.ensures refl refl

@@ -1,7 +1,6 @@
 use Prim.Native.Nat.{◌+◌, ◌*◌}
 use mathlib.Core.Path.{ap, ◌∙◌}
 use native.Mathlib.Omega.{arith}
-use borrow.Author.Tests.{not-true, not-false}
 use Rattle.proofread_notes.proofs.Areas.{readable_same}
 use Rattle.bar_walk.specs.declared.Walker.{Walker}
 use Rattle.bar_walk.proofs.WalkLaws.{walking_sane, walking_ready}
@@ -50,12 +49,11 @@ pub overflow_cast-count : goal.overflow_cast-count
 overflow_cast-count c =
     omega (arith, c.type_inv.counts (4 * c.loop-bar.bar + c.args.v))
 
-pub read_bar-voice-requires : goal.read_bar-voice-requires
-read_bar-voice-requires c =
+pub read_bar-requires : goal.read_bar-requires
+read_bar-requires c =
     let i = c.loop-bar.invariant in
     let q = c.requires in (
       readable_same i.area q.0,
-      i.ok,
       i.within,
       i.before,
       i.reached,
@@ -67,16 +65,11 @@ read_bar-voice-requires c =
       omega (arith, q.3.heads_fit, q.3.keys_fit),
     )
 
-pub shape_of-work-then-not-voice : goal.shape_of-work-then-not-voice
-shape_of-work-then-not-voice c =
-    c.read_bar-voice.ensures.same.kept ∙ c.loop-bar.invariant.area.kept
-
-pub returns-then-not-voice : goal.returns-then-not-voice
-returns-then-not-voice c =
+pub returns-in_default : goal.returns-in_default
+returns-in_default c =
     let q = c.requires in
     along_fails c.loop-bar.invariant (omega arith) q.0.room q.2
-    (rw (c.next_bar-next.ensures, c.sum_counts.ensures.0) at c.read_bar-voice.ensures)
-    (not-true c.read_bar-voice.result.ok c.if-not-voice.true)
+    (rw (c.next_bar-next.ensures, c.sum_counts.ensures.0, c.in_default.is) at c.read_bar.ensures)
 
 pub overflow_mul-bar-in-loop-bar : goal.overflow_mul-bar-in-loop-bar
 overflow_mul-bar-in-loop-bar c =
@@ -98,22 +91,20 @@ end_voice-requires c =
     let q = c.requires in
     let past =
     along_last c.loop-bar.invariant (omega arith) q.0.room q.2
-    (rw (c.next_bar-next.ensures, c.sum_counts.ensures.0) at c.read_bar-voice.ensures)
-    (not-false c.read_bar-voice.result.ok c.if-not-voice.false)
+    (rw (c.next_bar-next.ensures, c.sum_counts.ensures.0, c.in-Some.is) at c.read_bar.ensures)
     (rw c.next_bar-next.ensures at c.if-end-next.true) in
-    (readable_same past.area q.0, past_paced past, past.ok)
+    (readable_same past.area q.0, past_paced past)
 
 pub shape_of-work-then-end-next : goal.shape_of-work-then-end-next
 shape_of-work-then-end-next c =
-    c.end_voice.ensures.same.kept ∙ c.read_bar-voice.ensures.same.kept ∙ c.loop-bar.invariant.area.kept
+    c.end_voice.ensures.same.kept ∙ c.read_bar.ensures.same.kept ∙ c.loop-bar.invariant.area.kept
 
 pub returns-then-end-next : goal.returns-then-end-next
 returns-then-end-next c =
     let q = c.requires in
     voice_ends q.0.room
     (along_last c.loop-bar.invariant (omega arith) q.0.room q.2
-    (rw (c.next_bar-next.ensures, c.sum_counts.ensures.0) at c.read_bar-voice.ensures)
-    (not-false c.read_bar-voice.result.ok c.if-not-voice.false)
+    (rw (c.next_bar-next.ensures, c.sum_counts.ensures.0, c.in-Some.is) at c.read_bar.ensures)
     (rw c.next_bar-next.ensures at c.if-end-next.true))
     c.end_voice.ensures
 
@@ -128,8 +119,7 @@ loop-bar-preserved c =
     let q = c.requires in
     rw c.sum_counts-first.ensures.0
     (along_more c.loop-bar.invariant (omega arith) q.0.room q.2
-    (rw (c.next_bar-next.ensures, c.sum_counts.ensures.0) at c.read_bar-voice.ensures)
-    (not-false c.read_bar-voice.result.ok c.if-not-voice.false)
+    (rw (c.next_bar-next.ensures, c.sum_counts.ensures.0, c.in-Some.is) at c.read_bar.ensures)
     q.1.end_fits
     (rw c.next_bar-next.ensures at c.take_changes-walker.ensures)
     (rw c.next_bar-next.ensures at c.if-end-next.false))
@@ -138,7 +128,7 @@ loop-bar-preserved c =
 pub end_voice-requires-2 : goal.end_voice-requires-2
 end_voice-requires-2 c =
     let i = c.loop-bar.invariant in
-    (readable_same i.area c.requires.0, past_paced (along_end i (omega arith)), i.ok)
+    (readable_same i.area c.requires.0, past_paced (along_end i (omega arith)))
 
 pub shape_of-work : goal.shape_of-work
 shape_of-work c =
