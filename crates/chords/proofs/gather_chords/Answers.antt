@@ -1,6 +1,4 @@
-use mathlib.Core.Path.{ap}
 use native.Mathlib.Omega.{arith}
-use Rattle.rules.specs.RawNotes.{RawNote}
 use Rattle.chords.proofs.Gathering.{gathering_none, before_falls, gathering_open, gathering_join, gathering_end}
 use Rattle.chords.proofs.gather_chords.Goals.{in-Some, in-None}
 use Rattle.chords.proofs.gather_chords.Goals as goal
@@ -15,12 +13,6 @@ place_for-requires c = (
   omega arith,
   before_falls c.requires.1 c.loop-k.invariant (omega arith) c.note_at-note.ensures c.requires.2,
 )
-
-pub join_chord-requires : goal.join_chord-requires
-join_chord-requires c = omega (arith, c.in-Some.ensures.within, ap (λ (x : RawNote). x.key) c.note_at-note.ensures)
-
-pub open_chord-requires : goal.open_chord-requires
-open_chord-requires c = omega (arith, ap (λ (x : RawNote). x.key) c.note_at-note.ensures)
 
 pub loop-k-preserved : goal.loop-k-preserved
 loop-k-preserved c =

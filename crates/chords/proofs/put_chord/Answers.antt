@@ -4,21 +4,8 @@ use mathlib.Core.Path.{◌≡◌, refl}
 use mir.Val.{bool_byte}
 use native.Mathlib.Omega.{arith}
 use lib.Dec.{eqb}
-use lib.ListN.{length-set}
 use Rattle.chords.proofs.Stores.{five_stored}
 use Rattle.chords.proofs.put_chord.Goals as goal
-
-pub bounds-work-n-2 : goal.bounds-work-n-2
-bounds-work-n-2 c = simp length-set (omega arith)
-
-pub bounds-work-n-3 : goal.bounds-work-n-3
-bounds-work-n-3 c = simp length-set (omega arith)
-
-pub bounds-work-n-4 : goal.bounds-work-n-4
-bounds-work-n-4 c = simp length-set (omega arith)
-
-pub bounds-work-n-5 : goal.bounds-work-n-5
-bounds-work-n-5 c = simp length-set (omega arith)
 
 -- the mark that is put is that of the chord
 marked : (b : Bool) → eqb (bool_byte b) 1 ≡ b
