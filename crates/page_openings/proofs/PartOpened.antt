@@ -1,8 +1,11 @@
 -- A part opened: engraving is not refused where the opening found room, and the part's lines are ahead of its front.
 use Prim.Native.Nat.{ℕ, suc, ◌+◌, ◌-◌, ◌<◌, ◌≤◌}
-use mathlib.Core.Bool.{true, false}
+use mathlib.Core.Bool.{false}
+use Rattle.std.specs.Prelude.{None, Some}
+use Rattle.std.proofs.lemmas.Option.{same_Some}
+use Rattle.pages.specs.declared.Spot.{Spot}
 use mathlib.Core.List.{List, [], ◌∷◌, ◌++◌}
-use mathlib.Core.Path.{◌≡◌, refl, sym, ap, ◌∙◌}
+use mathlib.Core.Path.{◌≡◌, refl, sym, ap, subst, ◌∙◌}
 use native.Mathlib.Omega.{arith}
 use borrow.Author.Tests.{ltb-false}
 use lib.ListN.{length}
@@ -19,9 +22,9 @@ use Rattle.tracks.proofs.Ranges.{quarter_fits}
 use Rattle.laws.proofs.Lists.{All-left, All-right, All-get, All-unmap}
 use Rattle.staffs.proofs.PartSizes.{engraves_part}
 use Rattle.pages.specs.Page.{Line, part_lines, parts_lines, Room, many_items, room_for}
-use Rattle.pages.specs.Spots.{Sheet, sheet, begun, ahead}
+use Rattle.pages.specs.Spots.{Sheet, sheet, begun, ahead, Fits}
 use Rattle.pages.specs.Claims.{part_sheet, PartAhead}
-use Rattle.page_openings.specs.Places.{lines_at, Ready, Rooms, PartOpened}
+use Rattle.page_openings.specs.Places.{lines_at, lines_unless, Ready, Rooms, PartOpened}
 use Rattle.page_openings.specs.declared.Place.{Place}
 use Rattle.page_room.proofs.Numbers.{part_passes}
 
@@ -44,7 +47,7 @@ parts_here x k n l =
 
 module _ (ahead_is : PartAhead) (x : Piece) (t : Place) {c₀ h₀ k₀ l₀ w₀ c₁ h₁ k₁ l₁ w₁ ss ms : List ℕ} {answer : Result StaffSize}
     (ready : Ready x (record { items = length h₀; work = length w₀ }) (sheet c₀ h₀ k₀ ss ms) t) (rooms : Rooms (sheet c₀ h₀ k₀ ss ms))
-    (leftovers : 40000 ≤ length l₀) (none : t.number ≡ 0) (closed : t.opened ≡ false) (left : t.next < t.parts)
+    (leftovers : 40000 ≤ length l₀) (none : t.refusal ≡ None) (closed : t.spot ≡ None) (left : t.next < t.parts)
     (run : EngraveCalled as_it_is (part_size x t.next) (engrave_call x t.next (length c₀) (length h₀) (length k₀) (length l₀) (length w₀))
     c₀ h₀ k₀ l₀ w₀ answer c₁ h₁ k₁ l₁ w₁) where
   abbrev k : ℕ
@@ -105,19 +108,24 @@ module _ (ahead_is : PartAhead) (x : Piece) (t : Place) {c₀ h₀ k₀ l₀ w�
 
   pub part_opened : (small : ticks_per_quarter x ≤ 65535) (s : StaffSize) → given s ≡ answer
       → PartOpened x (record { items = length h₀; work = length w₀ }) (sheet c₀ h₀ k₀ ss ms) t (sheet c₁ h₁ k₁ ss ms)
-      (record { number = 0; parts = t.parts; next = t.next + 1; opened = true; spot = begun t.next (ticks_per_quarter x) s.bars })
+      (record { refusal = t.refusal; parts = t.parts; next = t.next + 1; spot = Some (begun t.next (ticks_per_quarter x) s.bars) })
   part_opened small s h =
       record {
-        lines = ap (λ ls. ls ++ parts_lines x (k + 1) (t.parts - (k + 1))) (ahead_here s h) ∙ sym (parts_here x k t.parts left) ∙ closed_lines;
+        lines =
+            ap (λ o. lines_unless o (ahead (sheet c₁ h₁ k₁ ss ms) (begun k (ticks_per_quarter x) s.bars) ++ parts_lines x (k + 1) (t.parts - (k + 1)))) none
+            ∙ ap (λ ls. ls ++ parts_lines x (k + 1) (t.parts - (k + 1))) (ahead_here s h) ∙ sym (parts_here x k t.parts left) ∙ closed_lines;
         ready =
             record {
               passes = λ _. passes;
               parts = λ _. ready.parts left;
               starts = λ _. ready.starts left;
               marks = λ _. ready.marks left;
-              fits = λ _. rw (size_is s h, written_sheet) ((ahead_is x k c₀ h₀ k₀ ss ms).1 small);
+              fits = λ v e. subst (λ (u : Spot). Fits (sheet c₁ h₁ k₁ ss ms) u) (same_Some _ v e) begun_fits;
             };
-        number = sym none;
+        number = refl;
         opened = λ _ _. refl;
-        titled = λ _ _ e. titled_some _ _ e;
+        titled = λ _ v e z. titled_some _ _ (subst (λ (u : Spot). ahead (sheet c₁ h₁ k₁ ss ms) u ≡ []) (sym (same_Some _ v e)) z);
       }
+    where
+      begun_fits : Fits (sheet c₁ h₁ k₁ ss ms) (begun k (ticks_per_quarter x) s.bars)
+      begun_fits = rw (size_is s h, written_sheet) ((ahead_is x k c₀ h₀ k₀ ss ms).1 small)

@@ -1,7 +1,7 @@
 // A page opened: a piece, a text or a file first, then each part, and its lines put into lent bytes turn by turn.
 #![tactic(auto)]
 
-ghost use Rattle.std.specs.Prelude.{◌<◌, ◌≤◌, true, false, ◌≡◌, length};
+ghost use Rattle.std.specs.Prelude.{◌<◌, ◌≤◌, ◌≡◌, length, None, Some};
 ghost use Rattle.rules.specs.Piece.{piece};
 ghost use Rattle.rules.specs.RawNotes.{parts as RawNotes·parts};
 ghost use Rattle.rules.specs.Refusals.{note_refusals};
@@ -10,24 +10,20 @@ ghost use Rattle.piece_text.specs.Held.{Fit};
 ghost use Rattle.pages.specs.Page.{room_for, any_file, file_page};
 ghost use Rattle.pages.specs.Spots.{sheet, Fits};
 ghost use Rattle.page_openings.specs.Places.{goes_on, turned_back, to_open, behind_put, Ready, Rooms, PieceOpened, PartOpened, LinesPut};
+ghost use Rattle.pages.specs.declared.Spot.{Spot as Declared·Spot};
 ghost use Rattle.page_openings.specs.Places.{no_piece, Within, Opens, FrontOpened, LinesOpen, TextOpens, FileOpens};
 
-use basics::MOST_BYTES;
-use files::PieceAnswer;
-use heads::PartCountAnswer;
-use pages::{Put, Spot};
-use piece_text::{Counts, Text};
-use staffs::StaffAnswer;
+use basics::{MOST_BYTES, Refusal};
+use pages::{Lines, Spot};
+use piece_text::Counts;
 
-// Where a page stands: the refusal whose line is ahead, or 0; how many parts there are and which is opened next; whether a part is open, and the
-// spot in it.
-#[derive(Clone, Copy)]
+// Where a page stands: the refusal whose line is ahead, how many parts there are and which is opened next, and the spot in the part that is open, where one is.
+#[derive(Clone, Copy, Debug, PartialEq, Eq)]
 pub struct Place {
-    pub number: u32,
+    pub refusal: Option<Refusal>,
     pub parts: u32,
     pub next: u32,
-    pub opened: bool,
-    pub spot: Spot,
+    pub spot: Option<Spot>,
 }
 
 // What a turn put: how many bytes, and the place behind them.
@@ -37,17 +33,15 @@ pub struct Turn {
     pub place: Place,
 }
 
-// A refusal's line and nothing else, and where its number is 0 nothing at all.
-pub fn refused(number: u32) -> Place
-    ensures { result ≡ turned_back number }
+// A refusal's line and nothing else, and where there is none nothing at all.
+pub fn refused(refusal: Option<Refusal>) -> Place
+    ensures { result ≡ turned_back refusal }
 {
-    let spot = pages::nowhere();
     Place {
-        number,
+        refusal,
         parts: 0,
         next: 0,
-        opened: false,
-        spot,
+        spot: None,
     }
 }
 
@@ -55,13 +49,11 @@ pub fn refused(number: u32) -> Place
 fn all_parts(parts: u32) -> Place
     ensures { result ≡ to_open parts }
 {
-    let spot = pages::nowhere();
     Place {
-        number: 0,
+        refusal: None,
         parts,
         next: 0,
-        opened: false,
-        spot,
+        spot: None,
     }
 }
 
@@ -82,12 +74,14 @@ fn open_parts(
     ensures { PieceOpened (piece sizes.now deltas.now words.now)
         (record { items = items; work = length work.old }) starts.new marks.new result }
 {
-    let number = page_room::parts_number(sizes, deltas, words, parts, items, work);
-    if number != 0 {
-        return refused(number);
+    match page_room::parts_number(sizes, deltas, words, parts, items, work) {
+        Err(refusal) => refused(Some(refusal)),
+        Ok(()) => {
+            // The bars of a piece that is let pass are not refused.
+            let _ = bars::bars(sizes, deltas, words, starts, marks);
+            all_parts(parts)
+        }
     }
-    bars::bars(sizes, deltas, words, starts, marks);
-    all_parts(parts)
 }
 
 // A piece opened: its page is ahead.
@@ -105,10 +99,8 @@ pub fn open_piece(
         (record { items = items; work = length work.old }) starts.new marks.new result }
 {
     match heads::part_count(sizes, deltas, words) {
-        PartCountAnswer::Refused(number) => refused(number),
-        PartCountAnswer::Given(parts) => {
-            open_parts(sizes, deltas, words, parts, items, starts, marks, work)
-        }
+        Err(refusal) => refused(Some(refusal)),
+        Ok(parts) => open_parts(sizes, deltas, words, parts, items, starts, marks, work),
     }
 }
 
@@ -116,13 +108,7 @@ pub fn open_piece(
 pub fn goes_on(place: Place) -> bool
     ensures { result ≡ goes_on place }
 {
-    if place.number != 0 {
-        return true;
-    }
-    if place.opened {
-        return true;
-    }
-    place.next < place.parts
+    place.refusal.is_some() || place.spot.is_some() || place.next < place.parts
 }
 
 // The next part opened: engraved into the lent arrays. It was found to have room. Its leftovers, four a bar, are not printed.
@@ -142,7 +128,7 @@ fn open_part(
     requires ready { Ready (piece sizes.now deltas.now words.now) (record { items = length heads.old; work = length work.old })
         (sheet counts.old heads.old keys.old starts.now marks.now) place }
     requires rooms { Rooms (sheet counts.old heads.old keys.old starts.now marks.now) }
-    requires number_value { (place.number ≡ 0) × (place.opened ≡ false) × (place.next < place.parts) }
+    requires number_value { (place.refusal ≡ None) × (place.spot ≡ None) × (place.next < place.parts) }
     ensures { PartOpened (piece sizes.now deltas.now words.now)
         (record { items = length heads.old; work = length work.old })
         (sheet counts.old heads.old keys.old starts.now marks.now) place
@@ -152,17 +138,12 @@ fn open_part(
     match staffs::engrave(
         sizes, deltas, words, place.next, counts, heads, keys, leftovers, work,
     ) {
-        StaffAnswer::Refused(_) => place,
-        StaffAnswer::Given(size) => {
-            let spot = pages::begin(place.next, p, size.bars);
-            Place {
-                number: 0,
-                parts: place.parts,
-                next: place.next + 1,
-                opened: true,
-                spot,
-            }
-        }
+        Err(_) => place,
+        Ok(size) => Place {
+            next: place.next + 1,
+            spot: Some(pages::begin(place.next, p, size.bars)),
+            ..place
+        },
     }
 }
 
@@ -188,10 +169,10 @@ pub fn open_next(
         (sheet counts.old heads.old keys.old starts.now marks.now) place
         (sheet counts.new heads.new keys.new starts.now marks.now) result }
 {
-    if place.number != 0 {
+    if place.refusal.is_some() {
         return place;
     }
-    if place.opened {
+    if place.spot.is_some() {
         return place;
     }
     if place.parts <= place.next {
@@ -203,18 +184,15 @@ pub fn open_next(
 }
 
 // Behind lines that were put.
-fn behind(place: Place, put: Put) -> Turn
+fn behind(place: Place, put: Lines) -> Turn
     ensures { result ≡ behind_put place put }
 {
-    let spot = put.spot;
     Turn {
         at: put.at,
         place: Place {
-            number: 0,
-            parts: place.parts,
-            next: place.next,
-            opened: !put.ended,
-            spot,
+            refusal: None,
+            spot: put.rest,
+            ..place
         },
     }
 }
@@ -229,20 +207,19 @@ pub fn put_lines(
     marks: &[u64],
     out: &mut [u8],
 ) -> Turn
-    requires fits { place.opened ≡ true → Fits (sheet counts.now heads.now keys.now starts.now marks.now) place.spot }
+    requires fits { (spot : Declared·Spot) → place.spot ≡ Some spot → Fits (sheet counts.now heads.now keys.now starts.now marks.now) spot }
     requires in_bounds { 4096 ≤ length out.old }
     ensures { LinesPut (sheet counts.now heads.now keys.now starts.now marks.now)
         place out.new result }
 {
-    if place.number != 0 {
-        let at = bar_lines::put_refused(out, 0, basics::wide(place.number));
-        let end = refused(0);
+    if let Some(refusal) = place.refusal {
+        let at = bar_lines::put_refused(out, 0, u32::from(refusal) as u64);
+        let end = refused(None);
         return Turn { at, place: end };
     }
-    if !place.opened {
+    let Some(spot) = place.spot else {
         return Turn { at: 0, place };
-    }
-    let spot = place.spot;
+    };
     let put = pages::next_lines(spot, counts, heads, keys, starts, marks, out);
     behind(place, put)
 }
@@ -257,12 +234,11 @@ pub struct Opened {
 }
 
 // A refusal, with no piece.
-fn no_piece(number: u32) -> Opened
-    ensures { result ≡ no_piece number }
+fn no_piece(refusal: Refusal) -> Opened
+    ensures { result ≡ no_piece refusal }
 {
-    let place = refused(number);
     Opened {
-        place,
+        place: refused(Some(refusal)),
         sizes: 0,
         deltas: 0,
         words: 0,
@@ -322,16 +298,15 @@ fn open_lines(
     ensures opens { LinesOpen counts (record { items = items; work = length work.old })
         sizes.now deltas.now words.now starts.new marks.new result }
 {
-    let number = piece_text::number_due(counts, sizes, deltas, words);
-    if number != 0 {
-        return no_piece(number);
+    match piece_text::number_due(counts, sizes, deltas, words) {
+        Err(refusal) => no_piece(refusal),
+        Ok(()) => open_front(counts, sizes, deltas, words, items, starts, marks, work),
     }
-    open_front(counts, sizes, deltas, words, items, starts, marks, work)
 }
 
 // A text opened: its page is ahead, whatever text was read into the arrays.
 pub fn open_text(
-    read: Text,
+    read: Option<Counts>,
     sizes: &[u32],
     deltas: &[u32],
     words: &[u32],
@@ -347,10 +322,8 @@ pub fn open_text(
         sizes.now deltas.now words.now starts.new marks.new result }
 {
     match read {
-        Text::Bad => no_piece(1),
-        Text::Lines(counts) => {
-            open_lines(counts, sizes, deltas, words, items, starts, marks, work)
-        }
+        None => no_piece(Refusal::SizesDisagree),
+        Some(counts) => open_lines(counts, sizes, deltas, words, items, starts, marks, work),
     }
 }
 
@@ -373,8 +346,8 @@ fn open_bytes(
         sizes.new deltas.new words.new starts.new marks.new result }
 {
     match files::read(file, sizes, deltas, words) {
-        PieceAnswer::Refused(number) => no_piece(number),
-        PieceAnswer::Given(size) => {
+        Err(refusal) => no_piece(refusal),
+        Ok(size) => {
             let counts = Counts {
                 sizes: size.sizes,
                 deltas: size.events,
@@ -405,10 +378,10 @@ pub fn open_file(
         sizes.new deltas.new words.new starts.new marks.new result }
 {
     if MOST_BYTES < read {
-        return no_piece(11);
+        return no_piece(Refusal::TooManyBytes);
     }
     if most < read {
-        return no_piece(8);
+        return no_piece(Refusal::NoRoom);
     }
     open_bytes(file, sizes, deltas, words, items, starts, marks, work)
 }

@@ -8,20 +8,20 @@ use Rattle.page_openings.proofs.open_bytes.Goals as goal
 pub open_front-requires : goal.open_front-requires
 open_front-requires c =
     let a = c.requires in
-    record { fit = bytes_fit _ a.in_bounds.0 a.in_bounds.1 a.in_bounds.2 c.read.ensures _ (ap piece_answer (sym c.in-Given.is)); in_bounds = a.in_bounds_2 }
+    record { fit = bytes_fit _ a.in_bounds.0 a.in_bounds.1 a.in_bounds.2 c.read.ensures _ (ap piece_answer (sym c.in-Ok.is)); in_bounds = a.in_bounds_2 }
 
-pub returns-in-Refused : goal.returns-in-Refused
-returns-in-Refused c =
+pub returns-in-Err : goal.returns-in-Err
+returns-in-Err c =
     let a = c.requires in
     rw c.no_piece.ensures (record {
       within = no_piece_within _ _ _ _;
-      opens = bytes_refused _ a.in_bounds.0 a.in_bounds.1 a.in_bounds.2 c.read.ensures _ _ _ _ (ap piece_answer (sym c.in-Refused.is));
+      opens = bytes_refused _ a.in_bounds.0 a.in_bounds.1 a.in_bounds.2 c.read.ensures _ _ _ _ (ap piece_answer (sym c.in-Err.is));
     })
 
-pub returns-in-Given : goal.returns-in-Given
-returns-in-Given c =
+pub returns-in-Ok : goal.returns-in-Ok
+returns-in-Ok c =
     let a = c.requires in
-    let is_given = ap piece_answer (sym c.in-Given.is) in record {
+    let is_given = ap piece_answer (sym c.in-Ok.is) in record {
       within = front_within _ _ _ _ _ _ _ _ (bytes_fit _ a.in_bounds.0 a.in_bounds.1 a.in_bounds.2 c.read.ensures _ is_given)
           c.open_front.ensures;
       opens = bytes_open _ a.in_bounds.0 a.in_bounds.1 a.in_bounds.2 c.read.ensures _ is_given _ _ _ _ c.open_front.ensures;

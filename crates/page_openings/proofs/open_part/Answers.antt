@@ -10,18 +10,18 @@ use Rattle.page_openings.proofs.open_part.Goals as goal
 pub overflow_add-result : goal.overflow_add-result
 overflow_add-result c = omega (arith, c.requires.number_value.2)
 
-pub returns-in-Refused : goal.returns-in-Refused
-returns-in-Refused c =
+pub returns-in-Err : goal.returns-in-Err
+returns-in-Err c =
     let a = c.requires in
     absurd
     (not_refused part_ahead _ c.args.place a.ready a.rooms (search rules) a.number_value.0 a.number_value.1 a.number_value.2
     c.engrave.ensures _
-    (ap answer_of (sym c.in-Refused.is)))
+    (ap answer_of (sym c.in-Err.is)))
 
-pub returns-in-Given : goal.returns-in-Given
-returns-in-Given c =
+pub returns-in-Ok : goal.returns-in-Ok
+returns-in-Ok c =
     let a = c.requires in
-    rw (c.begin-spot.ensures, c.ticks_per_quarter-p.ensures)
+    rw (c.begin.ensures, c.ticks_per_quarter-p.ensures)
     (part_opened part_ahead _ c.args.place a.ready a.rooms (search rules) a.number_value.0 a.number_value.1 a.number_value.2
     c.engrave.ensures
-    (opened_small _ a.ready a.number_value.2) _ (ap answer_of (sym c.in-Given.is)))
+    (opened_small _ a.ready a.number_value.2) _ (ap answer_of (sym c.in-Ok.is)))

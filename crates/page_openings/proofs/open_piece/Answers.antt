@@ -6,9 +6,9 @@ use Rattle.page_openings.proofs.open_piece.Goals as goal
 
 pub open_parts-requires : goal.open_parts-requires
 open_parts-requires c =
-    let given_count = count_given _ _ (ap count_answer (sym c.in-Given.is) ∙ c.part_count.ensures) in
+    let given_count = count_given _ _ (ap count_answer (sym c.in-Ok.is) ∙ c.part_count.ensures) in
     record { passes = given_count.0; parts_value = given_count.1; in_bounds = c.requires }
 
-pub returns-in-Refused : goal.returns-in-Refused
-returns-in-Refused c =
-    rw c.refused.ensures (piece_refused _ _ _ _ _ (ap count_answer (sym c.in-Refused.is) ∙ c.part_count.ensures))
+pub returns-in-Err : goal.returns-in-Err
+returns-in-Err c =
+    rw c.refused.ensures (piece_refused _ _ _ _ _ (ap count_answer (sym c.in-Err.is) ∙ c.part_count.ensures))
