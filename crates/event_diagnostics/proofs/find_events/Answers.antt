@@ -2,7 +2,6 @@ use Prim.Native.Nat.{◌+◌, ◌≤◌}
 use native.Mathlib.Omega.{arith}
 use lib.ListN.{get_or}
 use Rattle.rules.specs.Piece.{Event}
-use Rattle.findings.proofs.Putting.{places_kept, details_kept}
 use Rattle.event_diagnostics.proofs.Searching.{searching_start, searching_more, searched, tick_below, one_at_most}
 use Rattle.event_diagnostics.proofs.find_events.Goals as goal
 
@@ -12,10 +11,6 @@ loop-i-init c = searching_start
 pub overflow_add-tick : goal.overflow_add-tick
 overflow_add-tick c =
     omega (arith, c.from-tick.ensures, tick_below c.requires c.loop-i.invariant (omega arith))
-
-pub bounds-words-i : goal.bounds-words-i
-bounds-words-i c =
-    omega (arith, c.requires.events.same)
 
 pub put_event-next-requires : goal.put_event-next-requires
 put_event-next-requires c =
@@ -32,12 +27,6 @@ loop-i-preserved c =
     let found = c.put_event-next.ensures in
     let step : c.put_event-next.result ≤ at.next + 1 = omega (arith, found.count) in
     rw c.from-tick.ensures (searching_more c.requires at.invariant (omega arith) (rw c.from-tick.ensures at found) step)
-
-pub shape_of-places : goal.shape_of-places
-shape_of-places c = places_kept c.loop-i.invariant.found
-
-pub shape_of-details : goal.shape_of-details
-shape_of-details c = details_kept c.loop-i.invariant.found
 
 pub returns : goal.returns
 returns c = searched c.requires c.loop-i.invariant (omega arith)

@@ -2,24 +2,17 @@ use mathlib.Core.Path.{refl}
 use native.Mathlib.Omega.{arith}
 use Rattle.pairing.proofs.Grids.{zeros_grid, zeros_empty}
 use Rattle.tracks.proofs.Cuts.{cut_deltas, cut_words}
-use Rattle.findings.proofs.Putting.{places_kept, details_kept}
 use Rattle.loss_diagnostics.proofs.Walking.{walking_end, tracking_start, tracking_fresh, tracking_next}
 use Rattle.loss_diagnostics.proofs.unmatched_tracks.Goals as goal
 
 pub loop-i-init : goal.loop-i-init
 loop-i-init c = tracking_start c.requires.0 zeros_empty zeros_grid
 
-pub overflow_add-to : goal.overflow_add-to
-overflow_add-to c = omega (arith, (cut_deltas c.loop-i.invariant.walk.cut (omega arith) refl).1)
-
 pub cut-requires : goal.cut-requires
 cut-requires c = cut_deltas c.loop-i.invariant.walk.cut (omega arith) refl
 
 pub cut-requires-in-loop-i : goal.cut-requires-in-loop-i
 cut-requires-in-loop-i c = cut_words c.loop-i.invariant.walk.cut (omega arith) refl
-
-pub overflow_sub-i : goal.overflow_sub-i
-overflow_sub-i c = omega (arith, c.loop-i.invariant.walk.behind)
 
 pub unmatched_notes-next-requires : goal.unmatched_notes-next-requires
 unmatched_notes-next-requires c =
@@ -33,15 +26,6 @@ loop-i-preserved c =
     let found = rw (c.cut.ensures, c.cut-in-loop-i.ensures) at c.unmatched_notes-next.ensures.1 in
     tracking_next pre.0 pre.1 c.loop-i.invariant (omega arith) c.unmatched_notes-next.auto.work
     c.unmatched_notes-next.ensures.0 found
-
-pub shape_of-places : goal.shape_of-places
-shape_of-places c = places_kept c.loop-i.invariant.walk.found
-
-pub shape_of-details : goal.shape_of-details
-shape_of-details c = details_kept c.loop-i.invariant.walk.found
-
-pub shape_of-work : goal.shape_of-work
-shape_of-work c = c.loop-i.invariant.kept
 
 pub returns : goal.returns
 returns c =
