@@ -7,7 +7,7 @@ ghost use Rattle.page_openings.specs.Places.{Within};
 ghost use Rattle.printer.specs.Turns.{ReadyFor};
 
 use page_openings::Opened;
-use piece_text::Text;
+use piece_text::Counts;
 
 mod writer;
 
@@ -48,7 +48,7 @@ pub fn print_opened(
 
 // Prints the page of a text that was read, in arrays that are lent.
 fn print_in(
-    text: Text,
+    text: Option<Counts>,
     sizes: &[u32; 65537],
     deltas: &[u32; 500000],
     words: &[u32; 500000],
@@ -63,7 +63,12 @@ fn print_in(
 }
 
 // Prints the page of a text that was read. The work area suffices for 15,000 note-ons in one track: 16 times as many words and 4,096.
-fn print_read(text: Text, sizes: &[u32; 65537], deltas: &[u32; 500000], words: &[u32; 500000])
+fn print_read(
+    text: Option<Counts>,
+    sizes: &[u32; 65537],
+    deltas: &[u32; 500000],
+    words: &[u32; 500000],
+)
     requires { ReadText text sizes.now deltas.now words.now }
 {
     let mut starts = [0u64; 10000];

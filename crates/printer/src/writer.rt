@@ -66,6 +66,7 @@ fn print_page(
     requires in_bounds { 4096 ≤ length out.old }
 {
     let mut at = place;
+    // Kept: how many turns there are is found on the way.
     while page_openings::goes_on(at) {
         at = turn(
             at, sizes, deltas, words, starts, marks, counts, heads, keys, leftovers, work, out,
