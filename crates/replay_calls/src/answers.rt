@@ -9,15 +9,10 @@ ghost use Rattle.staffs.specs.Parts.{answer_of};
 ghost use Rattle.replay_answers.specs.Numbers.{saying};
 ghost use Rattle.replay_calls.specs.Outcomes.{head_numbers, count_numbers, part_head_numbers, size_numbers, automation_numbers, read_numbers};
 
-use automation::AutomationAnswer;
-use bars::BarsAnswer;
-use basics::wide;
+use basics::{Refusal, wide};
 use changes::Head;
-use diagnostics::DiagnosticsAnswer;
-use heads::{HeadAnswer, PartCountAnswer, PartHeadAnswer};
-use proofread::ReadAnswer;
+use engraver::Size;
 use replay_answers::{say_one, say_refused, say_right, say_two};
-use staffs::StaffAnswer;
 
 // The values of a head: fifths + 8 and minor are 0 where there is no key.
 fn say_head(h: Head, said: &mut [u64])
@@ -27,11 +22,12 @@ fn say_head(h: Head, said: &mut [u64])
     let tempo = wide(h.tempo);
     let upper = wide(h.upper);
     let lower = wide(h.lower);
-    if h.has_key {
-        let fifths = replay_answers::raised(h.fifths);
-        replay_answers::say_five(tempo, upper, lower, fifths, h.minor as u64, said);
-    } else {
-        replay_answers::say_five(tempo, upper, lower, 0, 0, said);
+    match h.key {
+        Some(key) => {
+            let fifths = replay_answers::raised(key.fifths);
+            replay_answers::say_five(tempo, upper, lower, fifths, key.minor as u64, said);
+        }
+        None => replay_answers::say_five(tempo, upper, lower, 0, 0, said),
     }
 }
 
@@ -41,8 +37,8 @@ pub fn head(sizes: &[u32], deltas: &[u32], words: &[u32], said: &mut [u64])
         (head_call (piece sizes.now deltas.now words.now)) }
 {
     match heads::head(sizes, deltas, words) {
-        HeadAnswer::Refused(number) => say_refused(number, said),
-        HeadAnswer::Given(h) => say_head(h, said),
+        Err(refusal) => say_refused(u32::from(refusal), said),
+        Ok(h) => say_head(h, said),
     }
 }
 
@@ -52,8 +48,8 @@ pub fn part_count(sizes: &[u32], deltas: &[u32], words: &[u32], said: &mut [u64]
         (part_count_call (piece sizes.now deltas.now words.now)) }
 {
     match heads::part_count(sizes, deltas, words) {
-        PartCountAnswer::Refused(number) => say_refused(number, said),
-        PartCountAnswer::Given(count) => say_one(wide(count), said),
+        Err(refusal) => say_refused(u32::from(refusal), said),
+        Ok(count) => say_one(wide(count), said),
     }
 }
 
@@ -63,8 +59,8 @@ pub fn part_head(sizes: &[u32], deltas: &[u32], words: &[u32], part: u32, said: 
         (part_head_call (piece sizes.now deltas.now words.now) part) }
 {
     match heads::part_head(sizes, deltas, words, part) {
-        PartHeadAnswer::Refused(number) => say_refused(number, said),
-        PartHeadAnswer::Given(h) => say_two(wide(h.channel), wide(h.program), said),
+        Err(refusal) => say_refused(u32::from(refusal), said),
+        Ok(h) => say_two(wide(h.channel), wide(h.program), said),
     }
 }
 
@@ -82,19 +78,19 @@ pub fn bars(
         starts.old marks.old said.new starts.new marks.new }
 {
     match bars::bars(sizes, deltas, words, starts, marks) {
-        BarsAnswer::Refused(number) => say_refused(number, said),
-        BarsAnswer::Given(count) => say_one(wide(count), said),
+        Err(refusal) => say_refused(u32::from(refusal), said),
+        Ok(count) => say_one(wide(count), said),
     }
 }
 
 // A staff's size, or the number.
-fn say_size(answer: StaffAnswer, said: &mut [u64])
+fn say_size(answer: Result<Size, Refusal>, said: &mut [u64])
     requires { 8 ≤ length said.old }
     ensures { said.new ≡ saying size_numbers said.old (answer_of answer) }
 {
     match answer {
-        StaffAnswer::Refused(number) => say_refused(number, said),
-        StaffAnswer::Given(size) => say_two(size.bars as u64, size.items as u64, said),
+        Err(refusal) => say_refused(u32::from(refusal), said),
+        Ok(size) => say_two(size.bars as u64, size.items as u64, said),
     }
 }
 
@@ -158,8 +154,8 @@ pub fn automation(
         ticks.old out.old said.new ticks.new out.new }
 {
     match automation::automation(sizes, deltas, words, part, ticks, out) {
-        AutomationAnswer::Refused(number) => say_refused(number, said),
-        AutomationAnswer::Given(n) => replay_answers::say_four(
+        Err(refusal) => say_refused(u32::from(refusal), said),
+        Ok(n) => replay_answers::say_four(
             n.bends as u64,
             n.controllers as u64,
             n.programs as u64,
@@ -186,8 +182,8 @@ pub fn diagnostics(
         said.new places.new details.new work.new }
 {
     match diagnostics::diagnostics(sizes, deltas, words, places, details, work) {
-        DiagnosticsAnswer::Refused(number) => say_refused(number, said),
-        DiagnosticsAnswer::Given(count) => say_one(wide(count), said),
+        Err(refusal) => say_refused(u32::from(refusal), said),
+        Ok(count) => say_one(wide(count), said),
     }
 }
 
@@ -209,7 +205,7 @@ pub fn proof_read(
         work.old said.new work.new }
 {
     match proofread::proof_read(sizes, deltas, words, part, counts, heads, keys, work) {
-        ReadAnswer::Refused(number) => say_refused(number, said),
-        ReadAnswer::Given(right) => say_right(right, said),
+        Err(refusal) => say_refused(u32::from(refusal), said),
+        Ok(right) => say_right(right, said),
     }
 }

@@ -2,11 +2,11 @@
 use Rattle.laws.proofs.Told.{diagnostics_told}
 use Rattle.replay_calls.proofs.answers.diagnostics.Goals as goal
 
-pub returns-in-Refused : goal.returns-in-Refused
-returns-in-Refused c =
-    diagnostics_told c.diagnostics.ensures (rw c.in-Refused.is c.say_refused.ensures)
+pub returns-in-Err : goal.returns-in-Err
+returns-in-Err c =
+    diagnostics_told c.diagnostics.ensures (rw c.in-Err.is (rw c.from.ensures at c.say_refused.ensures))
 
-pub returns-in-Given : goal.returns-in-Given
-returns-in-Given c =
+pub returns-in-Ok : goal.returns-in-Ok
+returns-in-Ok c =
     let values = rw c.wide.ensures at c.say_one.ensures in
-    diagnostics_told c.diagnostics.ensures (rw c.in-Given.is values)
+    diagnostics_told c.diagnostics.ensures (rw c.in-Ok.is values)

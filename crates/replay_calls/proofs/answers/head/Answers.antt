@@ -4,12 +4,12 @@ use Rattle.replay_calls.specs.Outcomes.{head_numbers}
 use Rattle.laws.proofs.Told.{told}
 use Rattle.replay_calls.proofs.answers.head.Goals as goal
 
-pub returns-in-Refused : goal.returns-in-Refused
-returns-in-Refused c =
+pub returns-in-Err : goal.returns-in-Err
+returns-in-Err c =
     let before = c.args.said.now in
-    told (saying head_numbers before) c.head.ensures.answered (rw c.in-Refused.is c.say_refused.ensures)
+    told (saying head_numbers before) c.head.ensures.answered (rw c.in-Err.is (rw c.from.ensures at c.say_refused.ensures))
 
-pub returns-in-Given : goal.returns-in-Given
-returns-in-Given c =
+pub returns-in-Ok : goal.returns-in-Ok
+returns-in-Ok c =
     let before = c.args.said.now in
-    told (saying head_numbers before) c.head.ensures.answered (rw c.in-Given.is c.say_head.ensures)
+    told (saying head_numbers before) c.head.ensures.answered (rw c.in-Ok.is c.say_head.ensures)

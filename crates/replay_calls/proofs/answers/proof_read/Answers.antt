@@ -2,10 +2,10 @@
 use Rattle.laws.proofs.Told.{read_told}
 use Rattle.replay_calls.proofs.answers.proof_read.Goals as goal
 
-pub returns-in-Refused : goal.returns-in-Refused
-returns-in-Refused c =
-    read_told c.proof_read.ensures (rw c.in-Refused.is c.say_refused.ensures)
+pub returns-in-Err : goal.returns-in-Err
+returns-in-Err c =
+    read_told c.proof_read.ensures (rw c.in-Err.is (rw c.from.ensures at c.say_refused.ensures))
 
-pub returns-in-Given : goal.returns-in-Given
-returns-in-Given c =
-    read_told c.proof_read.ensures (rw c.in-Given.is c.say_right.ensures)
+pub returns-in-Ok : goal.returns-in-Ok
+returns-in-Ok c =
+    read_told c.proof_read.ensures (rw c.in-Ok.is c.say_right.ensures)

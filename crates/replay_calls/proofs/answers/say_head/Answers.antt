@@ -5,10 +5,10 @@ use mir.Syntax.{w32}
 use mir.Val.{SFits}
 use Rattle.replay_calls.proofs.answers.say_head.Goals as goal
 
-pub returns-then-h : goal.returns-then-h
-returns-then-h c =
-    let fifths_fit : SFits w32 c.args.h.fifths = search rules in
-    rw c.if-h.true
+pub returns-in-Some : goal.returns-in-Some
+returns-in-Some c =
+    let fifths_fit : SFits w32 c.in-Some.key.fifths = search rules in
+    rw c.in-Some.is
     (rw (
       c.wide-tempo.ensures,
       c.wide-upper.ensures,
@@ -17,7 +17,7 @@ returns-then-h c =
       to_z-of_z fifths_fit,
     ) at c.say_five.ensures)
 
-pub returns-else-h : goal.returns-else-h
-returns-else-h c =
-    rw c.if-h.false
-    (rw (c.wide-tempo.ensures, c.wide-upper.ensures, c.wide-lower.ensures) at c.say_five-else-h.ensures)
+pub returns-in-None : goal.returns-in-None
+returns-in-None c =
+    rw c.in-None.is
+    (rw (c.wide-tempo.ensures, c.wide-upper.ensures, c.wide-lower.ensures) at c.say_five-in-None.ensures)
