@@ -1,4 +1,6 @@
 // Section 8: the proof-reader. It goes by raw notes, their grid and the bars alone, and works out the grid, snapping and values by itself.
+// Kept: small functions that the engraver's crates have too stand here and in the three crates below once more, since the two are independent
+// parties that share no code, and so neither's mistake is the other's.
 #![tactic(auto)]
 
 ghost use Rattle.std.specs.Prelude.{◌*◌, ◌≤◌, ◌<◌, ◌≡◌, length};
