@@ -101,7 +101,7 @@ fn none_chained(bases: [Option<u32>; 16]) -> bool
 fn is_automation_of(word: u32, channel: u32) -> bool
     ensures { result ≡ is_word_of channel word }
 {
-    match track_events::kind_of(word) {
+    match track_events::known_kind(word) {
         Some(
             Kind::Bend
             | Kind::Controller

@@ -97,7 +97,7 @@ impl Walker {
     {
         self.tick += delta as u64;
         self.at += 1;
-        let Some(kind) = track_events::kind_of(word) else {
+        let Some(kind) = track_events::known_kind(word) else {
             return self;
         };
         match kind {

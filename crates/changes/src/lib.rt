@@ -126,7 +126,7 @@ impl Reading {
         requires { well_formed word ≡ true }
         ensures { result ≡ took self word }
     {
-        let Some(kind) = track_events::kind_of(word) else {
+        let Some(kind) = track_events::known_kind(word) else {
             return self;
         };
         match kind {

@@ -8,6 +8,7 @@ use Rattle.track_events.specs.Kinds.{IsKind}
 
 -- r is the word w taken apart
 pub record IsWord (w : ℕ) (r : Word) : Type 0 where
+  pub number : r.number ≡ kind_of w
   pub kind : IsKind (kind_of w) r.kind
   pub a : r.a ≡ byte_a w
   pub b : r.b ≡ byte_b w

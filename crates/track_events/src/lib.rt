@@ -36,9 +36,10 @@ impl From<Kind> for u32 {
     }
 }
 
-// A word's four bytes, from the top: its kind, if it has one, and a, b and c.
+// A word's four bytes, from the top: the kind's number and, if a kind has it, the kind; then a, b and c.
 #[derive(Clone, Copy)]
 pub struct Word {
+    pub number: u32,
     pub kind: Option<Kind>,
     pub a: u32,
     pub b: u32,
@@ -50,25 +51,26 @@ pub fn take_apart(w: u32) -> Word
     ensures { IsWord w result }
 {
     Word {
-        kind: kind_of(w),
+        number: kind_of(w),
+        kind: known_kind(w),
         a: byte_a(w),
         b: byte_b(w),
         c: w % 256,
     }
 }
 
-// The byte that says a word's kind, whether a kind has it or not.
-pub fn kind_byte(w: u32) -> u32
+// The number of a word's kind, whether a kind has it or not.
+pub fn kind_of(w: u32) -> u32
     ensures { result ≡ kind_of w }
 {
     w / 16777216
 }
 
-// A word's kind alone.
-pub fn kind_of(w: u32) -> Option<Kind>
+// The kind of that number, if one has it.
+pub fn known_kind(w: u32) -> Option<Kind>
     ensures { IsKind (kind_of w) result }
 {
-    match kind_byte(w) {
+    match kind_of(w) {
         0 => Some(Kind::Meta),
         1 => Some(Kind::System),
         2 => Some(Kind::Tempo),
@@ -91,7 +93,7 @@ pub fn kind_of(w: u32) -> Option<Kind>
 pub fn is_kind(w: u32, kind: Kind) -> bool
     ensures { result ≡ is_kind (kind_number kind) w }
 {
-    kind_byte(w) == u32::from(kind)
+    kind_of(w) == u32::from(kind)
 }
 
 // A word's bytes a and b alone.
@@ -145,14 +147,14 @@ pub fn well_formed(w: u32) -> bool
 pub fn is_on(w: u32) -> bool
     ensures { result ≡ is_on w }
 {
-    kind_byte(w) == Kind::NoteOn as u32 && w % 256 != 0
+    kind_of(w) == Kind::NoteOn as u32 && w % 256 != 0
 }
 
 // Whether the word is a note-off, or a note-on with velocity 0.
 pub fn is_off(w: u32) -> bool
     ensures { result ≡ is_off w }
 {
-    let kind = kind_byte(w);
+    let kind = kind_of(w);
     kind == Kind::NoteOff as u32 || kind == Kind::NoteOn as u32 && w % 256 == 0
 }
 

@@ -11,25 +11,25 @@ use Rattle.bar_walk.proofs.Walker.take_one.Goals as goal
 
 pub take_meter-requires : goal.take_meter-requires
 take_meter-requires c =
-    omega (arith, meter_bounds c.args.word c.requires.formed (kind_some Meter c.kind_of.ensures (c.in-Some.is ∙ ap Some c.in-Meter.is)))
+    omega (arith, meter_bounds c.args.word c.requires.formed (kind_some Meter c.known_kind.ensures (c.in-Some.is ∙ ap Some c.in-Meter.is)))
 
 pub returns-in-Tempo : goal.returns-in-Tempo
-returns-in-Tempo c = rw (kind_some Tempo c.kind_of.ensures (c.in-Some.is ∙ ap Some c.in-Tempo.is)) c.take_tempo.ensures
+returns-in-Tempo c = rw (kind_some Tempo c.known_kind.ensures (c.in-Some.is ∙ ap Some c.in-Tempo.is)) c.take_tempo.ensures
 
 pub returns-in-Meter : goal.returns-in-Meter
-returns-in-Meter c = rw (kind_some Meter c.kind_of.ensures (c.in-Some.is ∙ ap Some c.in-Meter.is)) c.take_meter.ensures
+returns-in-Meter c = rw (kind_some Meter c.known_kind.ensures (c.in-Some.is ∙ ap Some c.in-Meter.is)) c.take_meter.ensures
 
 pub returns-in-Key : goal.returns-in-Key
-returns-in-Key c = rw (kind_some Key c.kind_of.ensures (c.in-Some.is ∙ ap Some c.in-Key.is)) c.take_key.ensures
+returns-in-Key c = rw (kind_some Key c.known_kind.ensures (c.in-Some.is ∙ ap Some c.in-Key.is)) c.take_key.ensures
 
 pub returns-in_default-kind : goal.returns-in_default-kind
 returns-in_default-kind c =
-    let other = other_kind (kind_of c.args.word) c.kind_of.ensures c.in-Some.is in
+    let other = other_kind (kind_of c.args.word) c.known_kind.ensures c.in-Some.is in
     let is = c.in_default-kind in
     rw (other Tempo is.not-Tempo, other Meter is.not-Meter, other Key is.not-Key)
 
 pub returns-in_default : goal.returns-in_default
 returns-in_default c =
-    let n = kind_none c.kind_of.ensures c.in_default.is in
+    let n = kind_none c.known_kind.ensures c.in_default.is in
     let k = kind_of c.args.word in
     rw (ne_eqb k 2 (n Tempo), ne_eqb k 3 (n Meter), ne_eqb k 4 (n Key))
