@@ -1,7 +1,7 @@
-// Limits by their names, and small functions that many crates use.
+// Limits and refusals by their names, the size of a work area, and its zeroing.
 #![tactic(auto)]
 
-ghost use Rattle.std.specs.Prelude.{◌≡◌, ◌≤◌, max};
+ghost use Rattle.std.specs.Prelude.{◌≡◌, ◌≤◌};
 ghost use Rattle.rules.specs.Lists.{cleared};
 ghost use Rattle.rules.specs.Refusals.{work_for, most_events};
 ghost use Rattle.basics.specs.Refusals.{number};
@@ -56,27 +56,6 @@ pub fn work_for(n: usize) -> usize
     ensures { result ≡ work_for n }
 {
     16 * n + 4096
-}
-
-// A number of an event or of the sizes, as a u64.
-pub fn wide(n: u32) -> u64
-    ensures { result ≡ n }
-{
-    n as u64
-}
-
-// The same as a usize.
-pub fn size(n: u32) -> usize
-    ensures { result ≡ n }
-{
-    n as usize
-}
-
-// The larger number.
-pub fn larger(a: u64, b: u64) -> u64
-    ensures { result ≡ max a b }
-{
-    if a < b { b } else { a }
 }
 
 // Zeroes a work area, the last thing that a call with one does.
