@@ -19,7 +19,7 @@ pub fn say_refused(number: u32, said: &mut [u64])
     requires { 8 ≤ length said.old }
     ensures { said.new ≡ written (number ∷ []) said.old }
 {
-    said[0] = basics::wide(number);
+    said[0] = u64::from(number);
 }
 
 pub fn say_one(a: u64, said: &mut [u64])

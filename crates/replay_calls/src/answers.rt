@@ -9,7 +9,7 @@ ghost use Rattle.staffs.specs.Parts.{answer_of};
 ghost use Rattle.replay_answers.specs.Numbers.{saying};
 ghost use Rattle.replay_calls.specs.Outcomes.{head_numbers, count_numbers, part_head_numbers, size_numbers, automation_numbers, read_numbers};
 
-use basics::{Refusal, wide};
+use basics::Refusal;
 use changes::Head;
 use engraver::Size;
 use replay_answers::{say_one, say_refused, say_right, say_two};
@@ -19,9 +19,9 @@ fn say_head(h: Head, said: &mut [u64])
     requires { 8 ≤ length said.old }
     ensures { said.new ≡ saying head_numbers said.old (given (head_of h)) }
 {
-    let tempo = wide(h.tempo);
-    let upper = wide(h.upper);
-    let lower = wide(h.lower);
+    let tempo = u64::from(h.tempo);
+    let upper = u64::from(h.upper);
+    let lower = u64::from(h.lower);
     match h.key {
         Some(key) => {
             let fifths = replay_answers::raised(key.fifths);
@@ -49,7 +49,7 @@ pub fn part_count(sizes: &[u32], deltas: &[u32], words: &[u32], said: &mut [u64]
 {
     match heads::part_count(sizes, deltas, words) {
         Err(refusal) => say_refused(u32::from(refusal), said),
-        Ok(count) => say_one(wide(count), said),
+        Ok(count) => say_one(u64::from(count), said),
     }
 }
 
@@ -60,7 +60,7 @@ pub fn part_head(sizes: &[u32], deltas: &[u32], words: &[u32], part: u32, said: 
 {
     match heads::part_head(sizes, deltas, words, part) {
         Err(refusal) => say_refused(u32::from(refusal), said),
-        Ok(h) => say_two(wide(h.channel), wide(h.program), said),
+        Ok(h) => say_two(u64::from(h.channel), u64::from(h.program), said),
     }
 }
 
@@ -79,7 +79,7 @@ pub fn bars(
 {
     match bars::bars(sizes, deltas, words, starts, marks) {
         Err(refusal) => say_refused(u32::from(refusal), said),
-        Ok(count) => say_one(wide(count), said),
+        Ok(count) => say_one(u64::from(count), said),
     }
 }
 
@@ -183,7 +183,7 @@ pub fn diagnostics(
 {
     match diagnostics::diagnostics(sizes, deltas, words, places, details, work) {
         Err(refusal) => say_refused(u32::from(refusal), said),
-        Ok(count) => say_one(wide(count), said),
+        Ok(count) => say_one(u64::from(count), said),
     }
 }
 

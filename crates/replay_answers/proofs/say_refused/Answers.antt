@@ -7,4 +7,4 @@ use Rattle.replay_answers.proofs.say_refused.Goals as goal
 pub returns : goal.returns
 returns c =
     let args = c.args in
-    rw c.wide.ensures (sets-eq (args.number ∷ []) args.said.now 0 (omega arith))
+    rw c.from.ensures (sets-eq (args.number ∷ []) args.said.now 0 (omega arith))

@@ -8,5 +8,5 @@ returns-in-Err c =
 
 pub returns-in-Ok : goal.returns-in-Ok
 returns-in-Ok c =
-    let values = rw c.wide.ensures at c.say_one.ensures in
+    let values = rw c.from-in-Ok.ensures at c.say_one.ensures in
     bars_told c.bars.ensures (rw c.in-Ok.is values)

@@ -11,6 +11,6 @@ returns-in-Err c =
 
 pub returns-in-Ok : goal.returns-in-Ok
 returns-in-Ok c =
-    let values = rw c.wide.ensures at c.say_one.ensures in
+    let values = rw c.from-in-Ok.ensures at c.say_one.ensures in
     let before = c.args.said.now in
     told (saying count_numbers before) c.part_count.ensures (rw c.in-Ok.is values)

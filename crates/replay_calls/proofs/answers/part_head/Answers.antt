@@ -11,6 +11,6 @@ returns-in-Err c =
 
 pub returns-in-Ok : goal.returns-in-Ok
 returns-in-Ok c =
-    let values = rw (c.wide.ensures, c.wide-in-Ok.ensures) at c.say_two.ensures in
+    let values = rw (c.from-in-Ok.ensures, c.from-in-Ok-2.ensures) at c.say_two.ensures in
     let before = c.args.said.now in
     told (saying part_head_numbers before) c.part_head.ensures (rw c.in-Ok.is values)

@@ -10,9 +10,9 @@ returns-in-Some c =
     let fifths_fit : SFits w32 c.in-Some.key.fifths = search rules in
     rw c.in-Some.is
     (rw (
-      c.wide-tempo.ensures,
-      c.wide-upper.ensures,
-      c.wide-lower.ensures,
+      c.from-tempo.ensures,
+      c.from-upper.ensures,
+      c.from-lower.ensures,
       c.raised-fifths.ensures,
       to_z-of_z fifths_fit,
     ) at c.say_five.ensures)
@@ -20,4 +20,4 @@ returns-in-Some c =
 pub returns-in-None : goal.returns-in-None
 returns-in-None c =
     rw c.in-None.is
-    (rw (c.wide-tempo.ensures, c.wide-upper.ensures, c.wide-lower.ensures) at c.say_five-in-None.ensures)
+    (rw (c.from-tempo.ensures, c.from-upper.ensures, c.from-lower.ensures) at c.say_five-in-None.ensures)
