@@ -5,7 +5,6 @@ use Rattle.rules.specs.Lists.{flag}
 use Rattle.rules.specs.Calls.{StaffSize, AutomationCounts, PieceSize}
 use Rattle.rules.specs.Changes as rules
 use Rattle.rules.specs.Refusals.{Result, refused, given}
-use Rattle.changes.specs.declared.Head.{Head}
 use Rattle.acorde.specs.declared.AcordeHead.{AcordeHead}
 use Rattle.acorde.specs.declared.AcordeAutomation.{AcordeAutomation}
 use Rattle.acorde.specs.declared.AcordeCount.{AcordeCount}
@@ -24,19 +23,6 @@ key_entry tempo m (some k) =
 abbrev pub head_entry : Result rules.Head → AcordeHead
 head_entry (refused n) = record { number = n; tempo = 0; upper = 0; lower = 0; has_key = 0; fifths = pos 0; minor = 0 }
 head_entry (given h) = key_entry h.tempo h.meter h.key
-
--- the same, of the struct that reading the head gives
-abbrev pub head_values : Head → AcordeHead
-head_values h =
-    record {
-      number = 0;
-      tempo = h.tempo;
-      upper = h.upper;
-      lower = h.lower;
-      has_key = flag h.has_key;
-      fifths = h.fifths;
-      minor = flag h.minor;
-    }
 
 abbrev pub count_entry : Result ℕ → AcordeCount
 count_entry (refused n) = record { number = n; count = 0 }

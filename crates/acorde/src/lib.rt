@@ -2,23 +2,24 @@
 #![tactic(auto)]
 
 ghost use Rattle.std.specs.Prelude.{◌≡◌, length};
-ghost use Rattle.rules.specs.Lists.{flag};
+ghost use Rattle.rules.specs.Refusals.{given};
 ghost use Rattle.rules.specs.Piece.{piece};
 ghost use Rattle.rules.specs.Calls.{head_call, part_count_call, part_head_call, bars_call, automation_call, diagnostics_call, part_size, staff_size_call, engrave_call, proof_read_call, BarsCalled, StaffSizeCalled, EngraveCalled, AutomationCalled, DiagnosticsCalled, ProofReadCalled};
 ghost use Rattle.rules.specs.Calls.{read_size_call, read_call, ReadCalled};
-ghost use Rattle.acorde.specs.Entries.{head_values, head_entry, count_entry, part_head_entry, automation_entry, staff_entry, reading_entry, piece_entry};
+ghost use Rattle.acorde.specs.Entries.{head_entry, count_entry, part_head_entry, automation_entry, staff_entry, reading_entry, piece_entry};
 ghost use Rattle.files.specs.Answers.{piece_answer};
+ghost use Rattle.heads.specs.Answers.{head_of, head_answer, count_answer, part_head_answer};
+ghost use Rattle.automation.specs.Answers.{automation_answer};
+ghost use Rattle.staffs.specs.Parts.{answer_of};
+ghost use Rattle.proofread.specs.Answers.{read_answer};
 
 mod value_entries;
 
-use automation::AutomationAnswer;
-use bars::BarsAnswer;
-use changes::Head;
-use diagnostics::DiagnosticsAnswer;
-use files::PieceAnswer;
-use heads::{HeadAnswer, PartCountAnswer, PartHeadAnswer};
-use proofread::ReadAnswer;
-use staffs::StaffAnswer;
+use automation_events::Counts;
+use basics::Refusal;
+use changes::{Head, PartHead};
+use engraver::Size;
+use files::PieceSize;
 
 #[repr(C)]
 #[derive(Clone, Copy)]
@@ -81,37 +82,141 @@ pub struct AcordeReading {
     pub right: u32,
 }
 
-fn flag(b: bool) -> u32
-    ensures { result ≡ flag b }
+fn head_given(h: Head) -> AcordeHead
+    ensures { result ≡ head_entry (given (head_of h)) }
 {
-    if b { 1 } else { 0 }
-}
-
-fn head_values(h: Head) -> AcordeHead
-    ensures { result ≡ head_values h }
-{
-    AcordeHead {
-        number: 0,
-        tempo: h.tempo,
-        upper: h.upper,
-        lower: h.lower,
-        has_key: flag(h.has_key),
-        fifths: h.fifths,
-        minor: flag(h.minor),
+    match h.key {
+        Some(key) => AcordeHead {
+            number: 0,
+            tempo: h.tempo,
+            upper: h.upper,
+            lower: h.lower,
+            has_key: 1,
+            fifths: key.fifths,
+            minor: u32::from(key.minor),
+        },
+        None => AcordeHead {
+            number: 0,
+            tempo: h.tempo,
+            upper: h.upper,
+            lower: h.lower,
+            has_key: 0,
+            fifths: 0,
+            minor: 0,
+        },
     }
 }
 
-// How a file's piece is told.
-fn piece_values(answer: PieceAnswer) -> AcordePiece
+// How an answer is told to C: a head, a count, a part's head, counts of automation, a staff's size, a reading, a file's piece.
+fn head_values(answer: Result<Head, Refusal>) -> AcordeHead
+    ensures { result ≡ head_entry (head_answer answer) }
+{
+    match answer {
+        Err(refusal) => AcordeHead {
+            number: u32::from(refusal),
+            tempo: 0,
+            upper: 0,
+            lower: 0,
+            has_key: 0,
+            fifths: 0,
+            minor: 0,
+        },
+        Ok(h) => head_given(h),
+    }
+}
+
+fn count_values(answer: Result<u32, Refusal>) -> AcordeCount
+    ensures { result ≡ count_entry (count_answer answer) }
+{
+    match answer {
+        Err(refusal) => AcordeCount {
+            number: u32::from(refusal),
+            count: 0,
+        },
+        Ok(count) => AcordeCount { number: 0, count },
+    }
+}
+
+fn part_head_values(answer: Result<PartHead, Refusal>) -> AcordePartHead
+    ensures { result ≡ part_head_entry (part_head_answer answer) }
+{
+    match answer {
+        Err(refusal) => AcordePartHead {
+            number: u32::from(refusal),
+            channel: 0,
+            program: 0,
+        },
+        Ok(h) => AcordePartHead {
+            number: 0,
+            channel: h.channel,
+            program: h.program,
+        },
+    }
+}
+
+fn automation_values(answer: Result<Counts, Refusal>) -> AcordeAutomation
+    ensures { result ≡ automation_entry (automation_answer answer) }
+{
+    match answer {
+        Err(refusal) => AcordeAutomation {
+            number: u32::from(refusal),
+            bends: 0,
+            controllers: 0,
+            programs: 0,
+            pressures: 0,
+        },
+        Ok(c) => AcordeAutomation {
+            number: 0,
+            bends: c.bends,
+            controllers: c.controllers,
+            programs: c.programs,
+            pressures: c.pressures,
+        },
+    }
+}
+
+fn staff_values(answer: Result<Size, Refusal>) -> AcordeStaff
+    ensures { result ≡ staff_entry (answer_of answer) }
+{
+    match answer {
+        Err(refusal) => AcordeStaff {
+            number: u32::from(refusal),
+            bars: 0,
+            items: 0,
+        },
+        Ok(s) => AcordeStaff {
+            number: 0,
+            bars: s.bars,
+            items: s.items,
+        },
+    }
+}
+
+fn reading_values(answer: Result<bool, Refusal>) -> AcordeReading
+    ensures { result ≡ reading_entry (read_answer answer) }
+{
+    match answer {
+        Err(refusal) => AcordeReading {
+            number: u32::from(refusal),
+            right: 0,
+        },
+        Ok(right) => AcordeReading {
+            number: 0,
+            right: u32::from(right),
+        },
+    }
+}
+
+fn piece_values(answer: Result<PieceSize, Refusal>) -> AcordePiece
     ensures { result ≡ piece_entry (piece_answer answer) }
 {
     match answer {
-        PieceAnswer::Refused(number) => AcordePiece {
-            number,
+        Err(refusal) => AcordePiece {
+            number: u32::from(refusal),
             sizes: 0,
             events: 0,
         },
-        PieceAnswer::Given(s) => AcordePiece {
+        Ok(s) => AcordePiece {
             number: 0,
             sizes: s.sizes,
             events: s.events,
@@ -144,28 +249,14 @@ pub extern "C" fn acorde_read(
 pub extern "C" fn acorde_head(sizes: &[u32], deltas: &[u32], words: &[u32]) -> AcordeHead
     ensures { result ≡ head_entry (head_call (piece sizes.now deltas.now words.now)) }
 {
-    match heads::head(sizes, deltas, words) {
-        HeadAnswer::Refused(number) => AcordeHead {
-            number,
-            tempo: 0,
-            upper: 0,
-            lower: 0,
-            has_key: 0,
-            fifths: 0,
-            minor: 0,
-        },
-        HeadAnswer::Given(h) => head_values(h),
-    }
+    head_values(heads::head(sizes, deltas, words))
 }
 
 #[unsafe(no_mangle)]
 pub extern "C" fn acorde_part_count(sizes: &[u32], deltas: &[u32], words: &[u32]) -> AcordeCount
     ensures { result ≡ count_entry (part_count_call (piece sizes.now deltas.now words.now)) }
 {
-    match heads::part_count(sizes, deltas, words) {
-        PartCountAnswer::Refused(number) => AcordeCount { number, count: 0 },
-        PartCountAnswer::Given(count) => AcordeCount { number: 0, count },
-    }
+    count_values(heads::part_count(sizes, deltas, words))
 }
 
 #[unsafe(no_mangle)]
@@ -177,18 +268,7 @@ pub extern "C" fn acorde_part_head(
 ) -> AcordePartHead
     ensures { result ≡ part_head_entry (part_head_call (piece sizes.now deltas.now words.now) part) }
 {
-    match heads::part_head(sizes, deltas, words, part) {
-        PartHeadAnswer::Refused(number) => AcordePartHead {
-            number,
-            channel: 0,
-            program: 0,
-        },
-        PartHeadAnswer::Given(h) => AcordePartHead {
-            number: 0,
-            channel: h.channel,
-            program: h.program,
-        },
-    }
+    part_head_values(heads::part_head(sizes, deltas, words, part))
 }
 
 #[unsafe(no_mangle)]
@@ -203,10 +283,7 @@ pub extern "C" fn acorde_bars(
         (bars_call (piece sizes.now deltas.now words.now) (length starts.old) (length marks.old))
         starts.old marks.old result starts.new marks.new }
 {
-    match bars::bars(sizes, deltas, words, starts, marks) {
-        BarsAnswer::Refused(number) => AcordeCount { number, count: 0 },
-        BarsAnswer::Given(count) => AcordeCount { number: 0, count },
-    }
+    count_values(bars::bars(sizes, deltas, words, starts, marks))
 }
 
 #[unsafe(no_mangle)]
@@ -222,22 +299,7 @@ pub extern "C" fn acorde_automation(
         (automation_call (piece sizes.now deltas.now words.now) part (length ticks.old) (length out.old))
         ticks.old out.old result ticks.new out.new }
 {
-    match automation::automation(sizes, deltas, words, part, ticks, out) {
-        AutomationAnswer::Refused(number) => AcordeAutomation {
-            number,
-            bends: 0,
-            controllers: 0,
-            programs: 0,
-            pressures: 0,
-        },
-        AutomationAnswer::Given(c) => AcordeAutomation {
-            number: 0,
-            bends: c.bends,
-            controllers: c.controllers,
-            programs: c.programs,
-            pressures: c.pressures,
-        },
-    }
+    automation_values(automation::automation(sizes, deltas, words, part, ticks, out))
 }
 
 #[unsafe(no_mangle)]
@@ -254,10 +316,7 @@ pub extern "C" fn acorde_diagnostics(
         (length places.old) (length details.old) (length work.old))
         places.old details.old work.old result places.new details.new work.new }
 {
-    match diagnostics::diagnostics(sizes, deltas, words, places, details, work) {
-        DiagnosticsAnswer::Refused(number) => AcordeCount { number, count: 0 },
-        DiagnosticsAnswer::Given(count) => AcordeCount { number: 0, count },
-    }
+    count_values(diagnostics::diagnostics(sizes, deltas, words, places, details, work))
 }
 
 #[unsafe(no_mangle)]
@@ -272,18 +331,7 @@ pub extern "C" fn acorde_staff_size(
         (staff_size_call (piece sizes.now deltas.now words.now) part (length work.old))
         work.old result work.new }
 {
-    match staffs::staff_size(sizes, deltas, words, part, work) {
-        StaffAnswer::Refused(number) => AcordeStaff {
-            number,
-            bars: 0,
-            items: 0,
-        },
-        StaffAnswer::Given(s) => AcordeStaff {
-            number: 0,
-            bars: s.bars,
-            items: s.items,
-        },
-    }
+    staff_values(staffs::staff_size(sizes, deltas, words, part, work))
 }
 
 #[unsafe(no_mangle)]
@@ -306,20 +354,9 @@ pub extern "C" fn acorde_engrave(
         counts.old heads.old keys.old leftovers.old work.old
         result counts.new heads.new keys.new leftovers.new work.new }
 {
-    match staffs::engrave(
+    staff_values(staffs::engrave(
         sizes, deltas, words, part, counts, heads, keys, leftovers, work,
-    ) {
-        StaffAnswer::Refused(number) => AcordeStaff {
-            number,
-            bars: 0,
-            items: 0,
-        },
-        StaffAnswer::Given(s) => AcordeStaff {
-            number: 0,
-            bars: s.bars,
-            items: s.items,
-        },
-    }
+    ))
 }
 
 #[unsafe(no_mangle)]
@@ -338,11 +375,5 @@ pub extern "C" fn acorde_proof_read(
         (record { counts = counts.entry.now; heads = heads.now; keys = keys.now }) (length work.old))
         work.old result work.new }
 {
-    match proofread::proof_read(sizes, deltas, words, part, counts, heads, keys, work) {
-        ReadAnswer::Refused(number) => AcordeReading { number, right: 0 },
-        ReadAnswer::Given(right) => AcordeReading {
-            number: 0,
-            right: flag(right),
-        },
-    }
+    reading_values(proofread::proof_read(sizes, deltas, words, part, counts, heads, keys, work))
 }

@@ -4,8 +4,7 @@ ghost use Rattle.rules.specs.Calls.{beats_call, spelling_call};
 ghost use Rattle.pitch.specs.Calls.{step_of, spelling_of};
 ghost use Rattle.acorde.specs.Values.{BeatsEntered, step_number, spelling_values, spelling_entry};
 
-use duration::Measured;
-use pitch::{Pitch, Spelled, Step};
+use pitch::{Pitch, Step};
 
 #[repr(C)]
 #[derive(Clone, Copy)]
@@ -28,9 +27,9 @@ pub extern "C" fn acorde_beats(code: u32, dots: u32) -> AcordeBeats
     ensures { BeatsEntered (beats_call code dots) result }
 {
     match duration::beats_of(code, dots) {
-        Measured::Length(beats) => AcordeBeats { number: 0, beats },
-        Measured::OutOfRange => AcordeBeats {
-            number: 10,
+        Ok(beats) => AcordeBeats { number: 0, beats },
+        Err(refusal) => AcordeBeats {
+            number: u32::from(refusal),
             beats: 0.0,
         },
     }
@@ -40,15 +39,7 @@ pub extern "C" fn acorde_beats(code: u32, dots: u32) -> AcordeBeats
 fn step_number(step: Step) -> u32
     ensures { result ≡ step_number (step_of step) }
 {
-    match step {
-        Step::C => 0,
-        Step::D => 1,
-        Step::E => 2,
-        Step::F => 3,
-        Step::G => 4,
-        Step::A => 5,
-        Step::B => 6,
-    }
+    step as u32
 }
 
 fn spelling_values(p: Pitch) -> AcordeSpelling
@@ -68,9 +59,9 @@ pub extern "C" fn acorde_spelling(key: u32) -> AcordeSpelling
     ensures { result ≡ spelling_entry (spelling_call key) }
 {
     match pitch::midi_to_pitch(key) {
-        Spelled::As(p) => spelling_values(p),
-        Spelled::OutOfRange => AcordeSpelling {
-            number: 10,
+        Ok(p) => spelling_values(p),
+        Err(refusal) => AcordeSpelling {
+            number: u32::from(refusal),
             step: 0,
             octave: 0,
             alter: 0,

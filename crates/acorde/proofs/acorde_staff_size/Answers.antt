@@ -1,14 +1,6 @@
--- `acorde_staff_size`: what `staff_size` answers, case by case.
-use mathlib.Core.Path.{sym, ap}
-use Rattle.staffs.specs.Parts.{answer_of}
+-- `acorde_staff_size`: what `staff_size` answers, told as a struct.
 use Rattle.laws.proofs.Told.{size_told}
-use Rattle.acorde.specs.Entries.{staff_entry}
 use Rattle.acorde.proofs.acorde_staff_size.Goals as goal
 
-pub returns-in-Refused : goal.returns-in-Refused
-returns-in-Refused c =
-    size_told c.staff_size.ensures (ap staff_entry (ap answer_of (sym c.in-Refused.is)))
-
-pub returns-in-Given : goal.returns-in-Given
-returns-in-Given c =
-    size_told c.staff_size.ensures (ap staff_entry (ap answer_of (sym c.in-Given.is)))
+pub returns : goal.returns
+returns c = size_told c.staff_size.ensures c.staff_values.ensures

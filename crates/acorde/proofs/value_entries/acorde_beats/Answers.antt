@@ -5,14 +5,14 @@ use Rattle.duration.specs.Calls.{measured_answer, Exactly}
 use Rattle.acorde.proofs.Entered.{beats_given, beats_refused}
 use Rattle.acorde.proofs.value_entries.acorde_beats.Goals as goal
 
-pub returns-in-Length : goal.returns-in-Length
-returns-in-Length c =
+pub returns-in-Ok : goal.returns-in-Ok
+returns-in-Ok c =
     let r = beats_call c.args.code c.args.dots in
-    beats_given r c.in-Length.beats
-    (subst (λ m. Exactly r (measured_answer m)) c.in-Length.is c.beats_of.ensures)
+    beats_given r c.in-Ok.beats
+    (subst (λ m. Exactly r (measured_answer m)) c.in-Ok.is c.beats_of.ensures)
 
-pub returns-in-OutOfRange : goal.returns-in-OutOfRange
+pub returns-in-Err : goal.returns-in-Err
 unfolding lib.Ieee.of_bits
-returns-in-OutOfRange c =
+returns-in-Err c =
     let r = beats_call c.args.code c.args.dots in
-    beats_refused r (subst (λ m. Exactly r (measured_answer m)) c.in-OutOfRange.is c.beats_of.ensures)
+    rw c.from.ensures (beats_refused r _ (subst (λ m. Exactly r (measured_answer m)) c.in-Err.is c.beats_of.ensures))
