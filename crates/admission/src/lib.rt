@@ -177,7 +177,7 @@ fn first_bad_event(deltas: &[u32], words: &[u32]) -> Result<(), Refusal>
 {
     let table = forbidden_bits();
     let mut i = 0;
-    // Kept: blocks are walked, not events; the next one begins where block_end ends this one.
+    // Kept: a range by 256 was tried; its proof wants to know where block_end ends a block, and the clause only bounds it.
     while i < deltas.len() {
         let to = block_end(i, deltas.len());
         bad_in_block(&table, deltas, words, i, to)?;

@@ -1,4 +1,6 @@
 // The lines of a bar, of a part and of a refusal on a printed page.
+//
+// Kept: no Display; the clauses name each byte that is put, and `fmt` would want a writer whose room is proved on the way.
 #![tactic(auto)]
 
 ghost use Rattle.std.specs.Prelude.{◌+◌, ◌≤◌, ◌≡◌, length};

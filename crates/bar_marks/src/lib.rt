@@ -5,6 +5,7 @@ ghost use Rattle.std.specs.Prelude.{◌≤◌, ◌≡◌};
 ghost use Rattle.bar_marks.specs.Marks.{packed, unpacked};
 
 // The figures of the meter and whether it is printed; tempo and fifths + 8, 0 where none is marked; whether the key is minor.
+// Kept: 0 for no tempo and for no key, since `UnpacksPacked` is of every number that the bits hold.
 #[derive(Clone, Copy, Debug, PartialEq, Eq)]
 pub struct Mark {
     pub upper: u32,

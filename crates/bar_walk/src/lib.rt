@@ -24,8 +24,8 @@ pub struct Walker {
     pub was_upper: u32,
     pub was_lower: u32,
     // the bar's start, and what is marked on it: tempo and fifths + 8, 0 where there is none, and minor
-    // Kept: no `Option`, since a mark packs these numbers as they are, and the walk's theorems compare them with the mark's.
     pub start: u64,
+    // Kept: no `Option`, since a mark packs these numbers as they are, and `Taking` and `AtBar` compare them with the mark's.
     pub tempo: u32,
     pub fifths: u32,
     pub minor: bool,

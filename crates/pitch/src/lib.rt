@@ -97,6 +97,7 @@ impl Pitch {
     }
 }
 
+// Kept beside flat_name: two tables, which differ in five rows; one function over a flag would hold both.
 fn sharp_name(pc: u32) -> Name
     ensures { name_of result ≡ get_or sharp_names pc (natural C) }
 {

@@ -70,7 +70,7 @@ fn take_event(
     }
 }
 
-// Pairs all events of a track.
+// Pairs all events of a track. (Why it is not one with unmatched's, is said there.)
 fn pair_track(
     deltas: &[u32],
     words: &[u32],
