@@ -7,11 +7,11 @@ use native.Mathlib.Omega.{arith}
 use borrow.Author.Tests.{eqb-true, eq-eqb}
 use lib.Dec.{eqb}
 use lib.ListN.{length}
+use Rattle.std.specs.Prelude.{Some, None}
 use Rattle.rules.specs.Lists.{All}
 use Rattle.replayed.specs.Claims.{ChunksAgree, DigitsRead, NothingIsEqual, EqualIsNothing}
 use Rattle.replayed.specs.Decimals.{digit, gap, shifted, stepped, ended, scanned, decimal}
 use Rattle.replayed.specs.Differences.{difference}
-use Rattle.replayed.specs.declared.Difference.TheVariants.{At, Nothing}
 use Rattle.replayed.specs.declared.Scanned.{Scanned}
 use Rattle.replayed.specs.declared.Scanned.TheVariants.{Inside, Number}
 use Rattle.replayed.specs.declared.Stopped.{Stopped}
@@ -51,13 +51,13 @@ chunks_agree label a b s k = agree label b a s k
 -- two lists without a difference are equal, from any index
 head_equal : (k x y : ℕ) (xs ys : List ℕ) (t : Bool)
     → eqb x y ≡ t
-    → (difference (k + 1) xs ys ≡ Nothing → xs ≡ ys)
-    → cond t (difference (k + 1) xs ys) (At k) ≡ Nothing
+    → (difference (k + 1) xs ys ≡ None → xs ≡ ys)
+    → cond t (difference (k + 1) xs ys) (Some k) ≡ None
     → x ∷ xs ≡ y ∷ ys
 head_equal k x y xs ys true e r h = let same = eqb-true x y e in let rest = r h in cc
 head_equal k x y xs ys false e r h = let z : ◌≡◌ {A = ℕ} 0 1 = cc in absurd (omega arith)
 
-none_equal : (k : ℕ) (xs ys : List ℕ) → difference k xs ys ≡ Nothing → xs ≡ ys
+none_equal : (k : ℕ) (xs ys : List ℕ) → difference k xs ys ≡ None → xs ≡ ys
 unfolding difference
 none_equal k [] [] h = refl
 none_equal k [] (y ∷ ys) h = let z : ◌≡◌ {A = ℕ} 0 1 = cc in absurd (omega arith)
@@ -67,7 +67,7 @@ none_equal k (x ∷ xs) (y ∷ ys) h = head_equal k x y xs ys (eqb x y) refl (no
 pub nothing_is_equal : NothingIsEqual
 nothing_is_equal xs ys h = none_equal 0 xs ys h
 
-same_none : (k : ℕ) (xs : List ℕ) → difference k xs xs ≡ Nothing
+same_none : (k : ℕ) (xs : List ℕ) → difference k xs xs ≡ None
 unfolding difference
 same_none k [] = refl
 same_none k (x ∷ xs) = rw (eq-eqb x x refl) (same_none (k + 1) xs)

@@ -1,19 +1,23 @@
 -- One turn of each loop, as laws on lists.
 use Prim.Native.Nat.{ℕ, zero, suc, ◌+◌, ◌-◌, ◌^◌, ◌≤◌, ◌<◌}
 use mathlib.Core.Bool.{Bool, true, false, ◌&&◌}
-use mathlib.Core.List.{List, [], ◌∷◌, ◌++◌, append-nil}
+use mathlib.Core.List.{List, [], ◌∷◌, ◌++◌, append-nil, map}
 use mathlib.Core.Path.{◌≡◌, refl, sym, ap, ◌∙◌}
 use native.Mathlib.Nat.{not-suc-le-zero, le_of_suc-le-suc}
 use native.Mathlib.Numerals.{add-one}
 use native.Mathlib.Omega.{arith}
 use borrow.Author.Fill.{fill_more}
-use borrow.Author.Tests.{leb-true, lt-ltb, le-ltb, le-leb, lt-leb, eq-eqb, ne_eqb}
-use lib.Dec.{leb}
+use borrow.Author.Tests.{eqb-true, leb-true, lt-ltb, le-ltb, le-leb, lt-leb, eq-eqb, ne_eqb}
+use lib.Dec.{eqb, leb}
 use lib.ListN.{length, get_or, set, drop, replicate, drop_of_length-le}
 use lib.Seq.{drop-cons}
+use Rattle.std.specs.List.{position_from, position_or_len}
+use Rattle.std.specs.Prelude.{Option, Some, None, not, cond, ltb}
+use Rattle.std.proofs.lemmas.Bool.{eqb-false}
+use Rattle.std.proofs.lemmas.Iterator.Adapters.{position_from-zero}
+use Rattle.std.proofs.lemmas.List.{length-map, map-set, get_or-map}
 use Rattle.replayed.specs.Decimals.{digit, gap, shifted, begun_by, gone_on_by, stepped, ended, scanned}
 use Rattle.replayed.specs.Differences.{difference, other, others}
-use Rattle.replayed.specs.declared.Difference.TheVariants.{At, Nothing}
 use Rattle.replayed.specs.declared.Scanned.{Scanned}
 use Rattle.replayed.specs.declared.Scanned.TheVariants.{Before, Inside, Number, Word, Large}
 
@@ -25,6 +29,18 @@ digit_low b h = leb-true 48 b (and_left (leb 48 b) (leb b 57) h)
     and_left true y h = refl
     and_left false y h = h
 
+-- a list of a number type as its numbers: as long, a store stores the number, and an element's number stands in its place
+module _ {S : Type 0} {value : S → ℕ} {values : List S → List ℕ} (same : (l : List S) → values l ≡ map value l) where
+  pub values_length : (l : List S) → length (values l) ≡ length l
+  values_length l = rw same (length-map l value)
+
+  pub values_set : (l : List S) (i : ℕ) (x : S) (n : ℕ) → value x ≡ n → values (set l i x) ≡ set (values l) i n
+  values_set l i x n e =
+      same (set l i x) ∙ map-set value l i x ∙ ap (λ (t : List ℕ). set t i (value x)) (sym (same l)) ∙ ap (set (values l) i) e
+
+  pub values_at : (l : List S) (i : ℕ) (x : S) → i < length l → x ≡ get_or l i x → get_or (values l) i 0 ≡ value x
+  values_at l i x h e = rw same (get_or-map value l i x 0 h ∙ ap value (sym e))
+
 -- where the first difference from i on is that of the whole lists: it is that from i + 1 on, it is i, or there is none
 module _ (w f : List ℕ) (i : ℕ) (so_far : difference i (drop i w) (drop i f) ≡ difference 0 w f) where
   pub differ_more : i < length w → i < length f → get_or w i 0 ≡ get_or f i 0
@@ -35,33 +51,54 @@ module _ (w f : List ℕ) (i : ℕ) (so_far : difference i (drop i w) (drop i f)
       rw (drop-cons w i 0 hw, drop-cons f i 0 hf, eq-eqb _ _ e, add-one) in
       sym step ∙ so_far
 
-  pub differ_here : i < length w → i < length f → (get_or w i 0 ≡ get_or f i 0 → ⊥) → At i ≡ difference 0 w f
+  pub differ_here : i < length w → i < length f → (get_or w i 0 ≡ get_or f i 0 → ⊥) → Some i ≡ difference 0 w f
   unfolding difference
   differ_here hw hf e =
-      let here : difference i (drop i w) (drop i f) ≡ At i =
+      let here : difference i (drop i w) (drop i f) ≡ Some i =
       rw (drop-cons w i 0 hw, drop-cons f i 0 hf, ne_eqb _ _ e) in
       sym here ∙ so_far
 
-  pub differ_short : i < length w → length f ≤ i → At i ≡ difference 0 w f
+  pub differ_short : i < length w → length f ≤ i → Some i ≡ difference 0 w f
   unfolding difference
   differ_short hw hf =
-      let short : difference i (drop i w) (drop i f) ≡ At i =
+      let short : difference i (drop i w) (drop i f) ≡ Some i =
       rw (drop-cons w i 0 hw, drop_of_length-le f hf) in
       sym short ∙ so_far
 
-  pub differ_long : length w ≤ i → i < length f → At i ≡ difference 0 w f
+  pub differ_long : length w ≤ i → i < length f → Some i ≡ difference 0 w f
   unfolding difference
   differ_long hw hf =
-      let long : difference i (drop i w) (drop i f) ≡ At i =
+      let long : difference i (drop i w) (drop i f) ≡ Some i =
       rw (drop_of_length-le w hw, drop-cons f i 0 hf) in
       sym long ∙ so_far
 
-  pub differ_end : length w ≤ i → length f ≤ i → Nothing ≡ difference 0 w f
+  pub differ_long_at_end : i ≡ length w → length w < length f → Some (length w) ≡ difference 0 w f
+  differ_long_at_end e h = ap (λ (k : ℕ). Some k) (sym e) ∙ differ_long (omega arith) (omega arith)
+
+  pub differ_end : length w ≤ i → length f ≤ i → None ≡ difference 0 w f
   unfolding difference
   differ_end hw hf =
-      let ends : difference i (drop i w) (drop i f) ≡ Nothing =
+      let ends : difference i (drop i w) (drop i f) ≡ None =
       rw (drop_of_length-le w hw, drop_of_length-le f hf) in
       sym ends ∙ so_far
+
+-- the first number that is not 0 is the first difference from as many zeros
+step_zero : (k x : ℕ) (l : List ℕ) (t : Bool) → eqb x 0 ≡ t
+    → position_from (λ (n : ℕ). not (eqb n 0)) (k + 1) l ≡ difference (k + 1) (replicate (length l) 0) l
+    → position_from (λ (n : ℕ). not (eqb n 0)) k (x ∷ l) ≡ difference k (replicate (length (x ∷ l)) 0) (x ∷ l)
+unfolding difference
+step_zero k x l true e r = rw (e, eq-eqb 0 x (sym (eqb-true x 0 e))) r
+step_zero k x l false e r = rw (e, ne_eqb 0 x (λ h. eqb-false x 0 e (sym h)))
+
+first_from : (k : ℕ) (l : List ℕ) → position_from (λ (n : ℕ). not (eqb n 0)) k l ≡ difference k (replicate (length l) 0) l
+unfolding difference
+first_from k [] = refl
+first_from k (x ∷ l) = step_zero k x l (eqb x 0) refl (first_from (k + 1) l)
+
+pub first_is : (l : List ℕ) (r : Option ℕ)
+    → r ≡ cond (ltb (position_or_len (λ (n : ℕ). not (eqb n 0)) l) (length l)) (Some (position_or_len (λ (n : ℕ). not (eqb n 0)) l)) None
+    → r ≡ difference 0 (replicate (length l) 0) l
+first_is l r h = h ∙ position_from-zero (λ (n : ℕ). not (eqb n 0)) l ∙ first_from 0 l
 
 -- a store at n makes one number more
 others_suc : (k n v : ℕ) (d : List ℕ) → v ≡ other (k + n) → n < length d

@@ -1,11 +1,10 @@
 -- What the definitions come to, stated for readers and proved in proofs/Laws.antt.
-use Rattle.std.specs.Prelude.{ℕ, ◌+◌, ◌<◌, ◌^◌, Bool, true, false, cond, List, ◌∷◌, ◌++◌, ◌≡◌, length}
+use Rattle.std.specs.Prelude.{ℕ, ◌+◌, ◌<◌, ◌^◌, Bool, true, false, cond, List, ◌∷◌, ◌++◌, ◌≡◌, None, length}
 use Rattle.rules.specs.Lists.{All}
 use Rattle.replayed.specs.Decimals.{digit, gap, ended, scanned, decimal}
 use Rattle.replayed.specs.Differences.{difference}
 use Rattle.replayed.specs.declared.Scanned.{Scanned}
 use Rattle.replayed.specs.declared.Scanned.TheVariants.{Before, Number}
-use Rattle.replayed.specs.declared.Difference.TheVariants.{Nothing}
 
 -- a text read in two chunks is read as in one
 abbrev pub ChunksAgree : Type 0
@@ -26,7 +25,7 @@ DigitsRead =
 
 -- no difference is found just where the lists are equal
 abbrev pub NothingIsEqual : Type 0
-NothingIsEqual = (xs ys : List ℕ) → difference 0 xs ys ≡ Nothing → xs ≡ ys
+NothingIsEqual = (xs ys : List ℕ) → difference 0 xs ys ≡ None → xs ≡ ys
 
 abbrev pub EqualIsNothing : Type 0
-EqualIsNothing = (xs : List ℕ) → difference 0 xs xs ≡ Nothing
+EqualIsNothing = (xs : List ℕ) → difference 0 xs xs ≡ None

@@ -1,9 +1,10 @@
 // What a replay does on slices: decimals read from a text byte by byte, numbers put into arrays before they are lent, and the first index at which lists differ.
 #![tactic(auto)]
 
-ghost use Rattle.std.specs.Prelude.{◌≤◌, ◌≡◌, ◌++◌, length, drop, replicate};
-ghost use Rattle.replayed.specs.Decimals.{digit, begun_by, gone_on_by, stepped, ended, scanned};
-ghost use Rattle.replayed.specs.Differences.{others, bit, difference};
+ghost use Rattle.std.specs.Prelude.{ℕ, ◌≤◌, ◌≡◌, ◌++◌, ◌-◌, ◌^◌, List, length, drop, map, replicate};
+ghost use Rattle.std.proofs.Common.{rules};
+ghost use Rattle.replayed.specs.Decimals.{begun_by, gone_on_by, stepped, ended, scanned};
+ghost use Rattle.replayed.specs.Differences.{others, bit, difference, same_numbers};
 
 // What is known of a number while its text is read.
 #[derive(Clone, Copy)]
@@ -20,20 +21,11 @@ pub enum Scanned {
     Large,
 }
 
-fn is_digit(byte: u8) -> bool
-    ensures { result ≡ digit byte }
-{
-    if byte < 48 {
-        return false;
-    }
-    byte <= 57
-}
-
 // A number's first byte, or one before it. Where no label may stand, only blanks and line ends may.
 fn begun(byte: u8, label: bool) -> Scanned
     ensures { result ≡ begun_by label byte }
 {
-    if is_digit(byte) {
+    if byte.is_ascii_digit() {
         return Scanned::Inside(byte as u64 - 48);
     }
     if label {
@@ -49,7 +41,7 @@ fn begun(byte: u8, label: bool) -> Scanned
 fn gone_on(value: u64, byte: u8, label: bool) -> Scanned
     ensures { result ≡ gone_on_by label value byte }
 {
-    if is_digit(byte) {
+    if byte.is_ascii_digit() {
         let next = byte as u64 - 48;
         if value <= (18446744073709551615 - next) / 10 {
             return Scanned::Inside(value * 10 + next);
@@ -103,47 +95,117 @@ pub fn scan(text: &[u8], from: usize, label: bool, known: Scanned) -> Stopped
     ensures { result ≡ scanned label (drop from text.now) known from }
 {
     let mut found = known;
-    let mut at = from;
-    while at < text.len() {
+    for at in from..text.len() {
         if is_ended(found) {
-            break;
+            return Stopped { found, at };
         }
         found = step(found, text[at], label);
-        at += 1;
     }
-    Stopped { found, at }
+    Stopped {
+        found,
+        at: from.max(text.len()),
+    }
+}
+
+// A type of numbers from 0 to a largest. As a list it stands for the list of its numbers.
+pub trait Number: Copy {
+    ghost MOST: { ℕ };
+
+    ghost value: { Self → ℕ };
+
+    ghost values: { List Self → List ℕ };
+
+    const MOST: u64;
+
+    fn from_u64(n: u64) -> Self
+        requires { n ≤ MOST }
+        ensures { value result ≡ n };
+
+    fn to_u64(self) -> u64
+        ensures { result ≡ value self };
+
+    ghost one_by_one: { (l : List Self) → values l ≡ map value l };
+}
+
+impl Number for u64 {
+    ghost MOST = { 2 ^ 64 - 1 };
+
+    ghost value = { λ n. n };
+
+    ghost values = { λ l. l };
+
+    ghost one_by_one = { same_numbers };
+
+    const MOST: u64 = u64::MAX;
+
+    fn from_u64(n: u64) -> u64 {
+        n
+    }
+
+    fn to_u64(self) -> u64 {
+        self
+    }
+}
+
+impl Number for u32 {
+    ghost MOST = { 2 ^ 32 - 1 };
+
+    ghost value = { λ n. n };
+
+    ghost values = { λ l. l };
+
+    ghost one_by_one = { same_numbers };
+
+    const MOST: u64 = 4294967295;
+
+    fn from_u64(n: u64) -> u32 {
+        n as u32
+    }
+
+    fn to_u64(self) -> u64 {
+        u64::from(self)
+    }
+}
+
+impl Number for u8 {
+    ghost MOST = { 255 };
+
+    ghost value = { λ n. n };
+
+    ghost values = { λ l. l };
+
+    ghost one_by_one = { same_numbers };
+
+    const MOST: u64 = 255;
+
+    fn from_u64(n: u64) -> u8 {
+        n as u8
+    }
+
+    fn to_u64(self) -> u64 {
+        u64::from(self)
+    }
+}
+
+// One that has every number of 32 bits.
+pub trait Wide: Number {
+    ghost holds: { 2 ^ 32 - 1 ≤ Self.MOST };
+}
+
+impl Wide for u64 {
+    ghost holds = { Prim.search rules };
+}
+
+impl Wide for u32 {
+    ghost holds = { Prim.search rules };
 }
 
 // Fills an array with other numbers.
-pub fn fill(l: &mut [u64])
-    ensures { l.new ≡ others 0 (length l.old) }
+pub fn fill<T: Wide>(l: &mut [T])
+    ensures { T.Number.values l.new ≡ others 0 (length l.old) }
 {
-    let mut i = 0;
-    while i < l.len() {
-        l[i] = 4000000000 + (i % 65536) as u64;
-        i += 1;
-    }
-}
-
-// The same numbers, in 32 bits.
-pub fn fill_narrow(l: &mut [u32])
-    ensures { l.new ≡ others 0 (length l.old) }
-{
-    let mut i = 0;
-    while i < l.len() {
-        l[i] = 4000000000 + (i % 65536) as u32;
-        i += 1;
-    }
-}
-
-// Zeroes an array.
-fn clear(l: &mut [u32])
-    ensures { l.new ≡ replicate (length l.old) 0 }
-{
-    let mut i = 0;
-    while i < l.len() {
-        l[i] = 0;
-        i += 1;
+    for i in 0..l.len() {
+        l[i] = T::from_u64(4000000000 + (i % 65536) as u64);
     }
 }
 
@@ -152,76 +214,38 @@ pub fn clear_front(l: &mut [u32], n: usize)
     requires { n ≤ length l.old }
     ensures { l.new ≡ replicate n 0 ++ drop n l.old }
 {
-    clear(&mut l[..n]);
-}
-
-#[derive(Clone, Copy)]
-pub enum Difference {
-    At(usize),
-    Nothing,
+    l[..n].fill(0);
 }
 
 // 1 where there is a difference.
-pub fn different(d: Difference) -> u64
-    ensures is { result ≡ bit d }
+pub fn different(at: Option<usize>) -> u64
+    ensures is { result ≡ bit at }
     ensures few { result ≤ 1 }
 {
-    match d {
-        Difference::At(_) => 1,
-        Difference::Nothing => 0,
-    }
+    u64::from(at.is_some())
 }
 
 // The first index at which two lists differ: in a number, or since one has ended.
-pub fn first_difference(wanted: &[u64], found: &[u64]) -> Difference
-    ensures { result ≡ difference 0 wanted.now found.now }
+pub fn first_difference<T: Number>(wanted: &[u64], found: &[T]) -> Option<usize>
+    ensures { result ≡ difference 0 wanted.now (T.values found.now) }
 {
-    let mut i = 0;
-    while i < wanted.len() {
+    for i in 0..wanted.len() {
         if found.len() <= i {
-            return Difference::At(i);
+            return Some(i);
         }
-        if wanted[i] != found[i] {
-            return Difference::At(i);
+        if wanted[i] != found[i].to_u64() {
+            return Some(i);
         }
-        i += 1;
     }
-    if i < found.len() {
-        return Difference::At(i);
+    if wanted.len() < found.len() {
+        return Some(wanted.len());
     }
-    Difference::Nothing
-}
-
-// The same where the second list's numbers are of 32 bits.
-pub fn first_difference_narrow(wanted: &[u64], found: &[u32]) -> Difference
-    ensures { result ≡ difference 0 wanted.now found.now }
-{
-    let mut k = 0;
-    while k < wanted.len() {
-        if found.len() <= k {
-            return Difference::At(k);
-        }
-        if wanted[k] != found[k] as u64 {
-            return Difference::At(k);
-        }
-        k += 1;
-    }
-    if k < found.len() {
-        return Difference::At(k);
-    }
-    Difference::Nothing
+    None
 }
 
 // The first number that is not 0.
-pub fn first_not_zero(l: &[u64]) -> Difference
+pub fn first_not_zero(l: &[u64]) -> Option<usize>
     ensures { result ≡ difference 0 (replicate (length l.now) 0) l.now }
 {
-    let mut i = 0;
-    while i < l.len() {
-        if l[i] != 0 {
-            return Difference::At(i);
-        }
-        i += 1;
-    }
-    Difference::Nothing
+    l.iter().position(|n| *n != 0)
 }
