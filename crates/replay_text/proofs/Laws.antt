@@ -8,24 +8,25 @@ use native.Mathlib.Nat.{sub-zero}
 use native.Mathlib.Omega.{arith}
 use borrow.Author.Tests.{le-leb, lt-leb}
 use lib.ListN.{length, set}
+use Rattle.std.specs.Prelude.{Option, Some}
 use Rattle.rules.specs.Lists.{written}
 use Rattle.laws.proofs.Filling.{Filling, filling_start, filling_more, filling_end}
 use Rattle.laws.proofs.Order.{by_le}
 use Rattle.replayed.specs.Differences.{difference, others}
-use Rattle.replayed.specs.declared.Difference.{Difference}
 use Rattle.replay_text.specs.Calls.{asked_at, most_room}
 use Rattle.replay_text.specs.Checks.{wanted_at, sound, checked_at}
 use Rattle.replay_text.specs.Numbers.{Numbers, ListRead, numbered, held_to, row, bounded_at, list_at, most_wide, most_narrow, large, long}
 use Rattle.replay_text.specs.declared.Listed.{Listed}
+use Rattle.replay_text.specs.declared.Fault.{Fault}
 use Rattle.replay_text.specs.declared.Cursor.{Cursor}
 use Rattle.replay_text.specs.declared.Numbered.{Numbered}
 
-module _ (most why : ℕ) (n : Numbered) where
+module _ (most : ℕ) (why : Fault) (n : Numbered) where
   pub held_small : n.value ≤ most → held_to most why n ≡ n
   unfolding held_to
   held_small h = rw (le-leb _ _ h)
 
-  pub held_large : most < n.value → held_to most why n ≡ numbered 0 n.next.at why
+  pub held_large : most < n.value → held_to most why n ≡ numbered 0 n.next.at (Some why)
   unfolding held_to
   held_large h = rw (lt-leb _ _ h)
 
@@ -94,7 +95,7 @@ expected_is text w₀ w₁ w₂ p r kept full read =
     (on.next, on.out ∙ rw full)
 
 -- a list against an array, from what it must hold
-pub checked_is : (text found w : List ℕ) (n : ℕ) (p next : Cursor) (e : Difference)
+pub checked_is : (text found w : List ℕ) (n : ℕ) (p next : Cursor) (e : Option ℕ)
     → n ≡ length found
     → next ≡ (list_at most_wide text n p).next
     → w ≡ wanted_at text n p

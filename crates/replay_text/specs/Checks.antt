@@ -1,9 +1,8 @@
 -- A list of the text against an array.
-use Rattle.std.specs.Prelude.{ℕ, cond, List, eqb, length}
+use Rattle.std.specs.Prelude.{ℕ, cond, List, Option, None, length}
+use Rattle.std.specs.Option.{is_some}
 use Rattle.rules.specs.Lists.{written}
 use Rattle.replayed.specs.Differences.{difference, others}
-use Rattle.replayed.specs.declared.Difference.{Difference}
-use Rattle.replayed.specs.declared.Difference.TheVariants.{Nothing}
 use Rattle.replay_text.specs.Numbers.{most_wide, list_at}
 use Rattle.replay_text.specs.declared.Cursor.{Cursor}
 use Rattle.replay_text.specs.declared.Checked.{Checked}
@@ -13,8 +12,8 @@ abbrev pub wanted_at : List ℕ → ℕ → Cursor → List ℕ
 wanted_at text room p = written (list_at most_wide text room p).all (others 0 room)
 
 -- a difference counts only where the list could be read
-abbrev pub sound : Cursor → Difference → Difference
-sound p d = cond (eqb p.fault 0) d Nothing
+abbrev pub sound : Cursor → Option ℕ → Option ℕ
+sound p d = cond (is_some p.fault) None d
 
 unfoldable pub checked_at : List ℕ → List ℕ → Cursor → Checked
 checked_at text found p =

@@ -1,25 +1,28 @@
 -- Numbers and lists of a text, each read from a cursor on: what is read, and the cursor behind it. After a fault every number is 0 and the cursor stays.
-use Rattle.std.specs.Prelude.{ℕ, zero, suc, ◌-◌, ◌^◌, ◌≤◌, Bool, true, false, cond, List, [], ◌∷◌, ◌≡◌, eqb, leb, length, drop}
+use Rattle.std.specs.Prelude.{ℕ, zero, suc, ◌-◌, ◌^◌, ◌≤◌, Bool, true, false, cond, List, [], ◌∷◌, ◌≡◌, Option, Some, None, leb, length, drop}
+use Rattle.std.specs.Option.{is_some}
 use Rattle.rules.specs.Lists.{written}
 use Rattle.replayed.specs.Decimals.{scanned}
 use Rattle.replayed.specs.declared.Scanned.{Scanned}
 use Rattle.replayed.specs.declared.Scanned.TheVariants.{Before, Inside, Number, Word, Large}
 use Rattle.replay_text.specs.declared.Cursor.{Cursor}
+use Rattle.replay_text.specs.declared.Fault.{Fault}
+use Rattle.replay_text.specs.declared.Fault.TheVariants as faults
 use Rattle.replay_text.specs.declared.Numbered.{Numbered}
 use Rattle.replay_text.specs.declared.Listed.{Listed}
 
 -- the faults: the text ends early, a word, too large a number, too long a list
-abbrev pub ends : ℕ
-ends = 1
+abbrev pub ends : Fault
+ends = faults.Ends
 
-abbrev pub word : ℕ
-word = 2
+abbrev pub word : Fault
+word = faults.Word
 
-abbrev pub large : ℕ
-large = 3
+abbrev pub large : Fault
+large = faults.Large
 
-abbrev pub long : ℕ
-long = 4
+abbrev pub long : Fault
+long = faults.Long
 
 -- the largest numbers of 64, 32 and 8 bits
 abbrev pub most_wide : ℕ
@@ -31,29 +34,29 @@ most_narrow = 2 ^ 32 - 1
 abbrev pub most_byte : ℕ
 most_byte = 255
 
-abbrev pub numbered : ℕ → ℕ → ℕ → Numbered
+abbrev pub numbered : ℕ → ℕ → Option Fault → Numbered
 numbered value at fault = record { value = value; next = record { at = at; fault = fault } }
 
 -- what the scanner knew where it stopped, as a number; the text's end ends a number, too
 abbrev pub settled : Scanned → ℕ → Numbered
-settled (Number v) at = numbered v at 0
-settled (Inside v) at = numbered v at 0
-settled Before at = numbered 0 at ends
-settled Word at = numbered 0 at word
-settled Large at = numbered 0 at large
+settled (Number v) at = numbered v at None
+settled (Inside v) at = numbered v at None
+settled Before at = numbered 0 at (Some ends)
+settled Word at = numbered 0 at (Some word)
+settled Large at = numbered 0 at (Some large)
 
 -- the next number; where a label may stand, it is passed over
 unfoldable pub number_at : Bool → List ℕ → Cursor → Numbered
 number_at label text p =
-    cond (eqb p.fault 0)
-    (settled (scanned label (drop p.at text) Before p.at).found (scanned label (drop p.at text) Before p.at).at)
+    cond (is_some p.fault)
     (record { value = 0; next = p })
+    (settled (scanned label (drop p.at text) Before p.at).found (scanned label (drop p.at text) Before p.at).at)
 
 -- no more than a limit; 0 and a fault where it is more
-unfoldable pub held_to : ℕ → ℕ → Numbered → Numbered
-held_to most why n = cond (leb n.value most) n (numbered 0 n.next.at why)
+unfoldable pub held_to : ℕ → Fault → Numbered → Numbered
+held_to most why n = cond (leb n.value most) n (numbered 0 n.next.at (Some why))
 
-abbrev pub bounded_at : Bool → ℕ → ℕ → List ℕ → Cursor → Numbered
+abbrev pub bounded_at : Bool → ℕ → Fault → List ℕ → Cursor → Numbered
 bounded_at label most why text p = held_to most why (number_at label text p)
 
 -- numbers one after another, and the cursor behind them

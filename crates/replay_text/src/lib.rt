@@ -2,30 +2,34 @@
 #![tactic(auto)]
 
 ghost use Rattle.std.specs.Prelude.{◌≤◌, ◌≡◌, length};
-ghost use Rattle.replay_text.specs.Numbers.{numbered, settled, number_at, held_to, bounded_at, list_at, ListRead, most_wide, most_narrow, most_byte};
+ghost use Rattle.replay_text.specs.Numbers.{numbered, settled, number_at, held_to, bounded_at, list_at, ListRead, most_wide};
 ghost use Rattle.replay_text.specs.Checks.{wanted_at, sound, checked_at};
 ghost use Rattle.replayed.specs.Differences.{difference};
 ghost use Rattle.replay_text.specs.Calls.{Within, asked_at};
 
-use replayed::{Difference, Scanned};
+use replayed::{Number, Scanned};
 
-// Why a text cannot be read on: it ends early, a word stands for a number, a number or a list is too large.
-pub const ENDS: usize = 1;
-
-pub const WORD: usize = 2;
-
-pub const LARGE: usize = 3;
-
-pub const LONG: usize = 4;
+// Why a text cannot be read on.
+#[derive(Clone, Copy)]
+pub enum Fault {
+    // It ends early.
+    Ends,
+    // A word stands for a number.
+    Word,
+    // A number is too large.
+    Large,
+    // A list is too long.
+    Long,
+}
 
 // The most that an array which is lent holds.
 pub const ROOM: usize = 45056;
 
-// A place of the text, and the fault that was met, or 0.
+// A place of the text, and the fault that was met there.
 #[derive(Clone, Copy)]
 pub struct Cursor {
     pub at: usize,
-    pub fault: usize,
+    pub fault: Option<Fault>,
 }
 
 // A number, and the place behind it.
@@ -35,7 +39,7 @@ pub struct Numbered {
     pub next: Cursor,
 }
 
-fn behind(value: u64, at: usize, fault: usize) -> Numbered
+fn behind(value: u64, at: usize, fault: Option<Fault>) -> Numbered
     ensures { result ≡ numbered value at fault }
 {
     Numbered {
@@ -49,11 +53,11 @@ fn settle(found: Scanned, at: usize) -> Numbered
     ensures { result ≡ settled found at }
 {
     match found {
-        Scanned::Number(value) => behind(value, at, 0),
-        Scanned::Inside(value) => behind(value, at, 0),
-        Scanned::Before => behind(0, at, ENDS),
-        Scanned::Word => behind(0, at, WORD),
-        Scanned::Large => behind(0, at, LARGE),
+        Scanned::Number(value) => behind(value, at, None),
+        Scanned::Inside(value) => behind(value, at, None),
+        Scanned::Before => behind(0, at, Some(Fault::Ends)),
+        Scanned::Word => behind(0, at, Some(Fault::Word)),
+        Scanned::Large => behind(0, at, Some(Fault::Large)),
     }
 }
 
@@ -61,7 +65,7 @@ fn settle(found: Scanned, at: usize) -> Numbered
 pub fn number(text: &[u8], p: Cursor, label: bool) -> Numbered
     ensures { result ≡ number_at label text.now p }
 {
-    if p.fault != 0 {
+    if p.fault.is_some() {
         return Numbered { value: 0, next: p };
     }
     let stopped = replayed::scan(text, p.at, label, Scanned::Before);
@@ -70,18 +74,18 @@ pub fn number(text: &[u8], p: Cursor, label: bool) -> Numbered
 }
 
 // A number that is no more than a limit; 0 and a fault where it is more.
-fn held(n: Numbered, most: u64, why: usize) -> Numbered
+fn held(n: Numbered, most: u64, why: Fault) -> Numbered
     ensures { result ≡ held_to most why n }
 {
     if n.value <= most {
         return n;
     }
     let p = n.next;
-    behind(0, p.at, why)
+    behind(0, p.at, Some(why))
 }
 
 // The next number, which is no more than a limit.
-pub fn bounded(text: &[u8], p: Cursor, label: bool, most: u64, why: usize) -> Numbered
+pub fn bounded(text: &[u8], p: Cursor, label: bool, most: u64, why: Fault) -> Numbered
     ensures is { result ≡ bounded_at label most why text.now p }
     ensures within { result.value ≤ most }
 {
@@ -95,53 +99,17 @@ pub struct Listed {
     pub next: Cursor,
 }
 
-// A list, to the front of an array.
-pub fn list(text: &[u8], p: Cursor, out: &mut [u64]) -> Listed
-    ensures { ListRead (list_at most_wide text.now (length out.old) p) out.old result out.new }
+// A list, to the front of an array: no number above the largest of the array's type.
+pub fn list<T: Number>(text: &[u8], p: Cursor, out: &mut [T]) -> Listed
+    ensures { ListRead (list_at T.MOST text.now (length out.old) p) (T.values out.old) result (T.values out.new) }
 {
-    let n = bounded(text, p, true, out.len() as u64, LONG);
+    let n = bounded(text, p, true, out.len() as u64, Fault::Long);
     let count = n.value as usize;
     let mut next = n.next;
-    let mut i = 0;
-    while i < count {
-        let r = bounded(text, next, false, 18446744073709551615, LARGE);
-        out[i] = r.value;
+    for i in 0..count {
+        let r = bounded(text, next, false, T::MOST, Fault::Large);
+        out[i] = T::from_u64(r.value);
         next = r.next;
-        i += 1;
-    }
-    Listed { count, next }
-}
-
-// The same, of 32 bits.
-pub fn narrow_list(text: &[u8], p: Cursor, out: &mut [u32]) -> Listed
-    ensures { ListRead (list_at most_narrow text.now (length out.old) p) out.old result out.new }
-{
-    let n = bounded(text, p, true, out.len() as u64, LONG);
-    let count = n.value as usize;
-    let mut next = n.next;
-    let mut i = 0;
-    while i < count {
-        let r = bounded(text, next, false, 4294967295, LARGE);
-        out[i] = r.value as u32;
-        next = r.next;
-        i += 1;
-    }
-    Listed { count, next }
-}
-
-// The same, of 8 bits.
-pub fn byte_list(text: &[u8], p: Cursor, out: &mut [u8]) -> Listed
-    ensures { ListRead (list_at most_byte text.now (length out.old) p) out.old result out.new }
-{
-    let n = bounded(text, p, true, out.len() as u64, LONG);
-    let count = n.value as usize;
-    let mut next = n.next;
-    let mut i = 0;
-    while i < count {
-        let r = bounded(text, next, false, 255, LARGE);
-        out[i] = r.value as u8;
-        next = r.next;
-        i += 1;
     }
     Listed { count, next }
 }
@@ -149,7 +117,7 @@ pub fn byte_list(text: &[u8], p: Cursor, out: &mut [u8]) -> Listed
 // A list's first difference from an array, and the place behind the list.
 #[derive(Clone, Copy)]
 pub struct Checked {
-    pub found: Difference,
+    pub found: Option<usize>,
     pub next: Cursor,
 }
 
@@ -164,49 +132,31 @@ fn expected(text: &[u8], p: Cursor, wanted: &mut [u64]) -> Cursor
 }
 
 // A difference counts only where the list could be read.
-pub fn counted(p: Cursor, d: Difference) -> Difference
-    ensures { result ≡ sound p d }
+pub fn counted(p: Cursor, at: Option<usize>) -> Option<usize>
+    ensures { result ≡ sound p at }
 {
-    if p.fault == 0 {
-        return d;
+    if p.fault.is_some() {
+        return None;
     }
-    Difference::Nothing
+    at
 }
 
-fn differs(next: Cursor, wanted: &[u64], found: &[u64]) -> Difference
-    ensures { result ≡ sound next (difference 0 wanted.now found.now) }
+fn differs<T: Number>(next: Cursor, wanted: &[u64], found: &[T]) -> Option<usize>
+    ensures { result ≡ sound next (difference 0 wanted.now (T.values found.now)) }
 {
     counted(next, replayed::first_difference(wanted, found))
 }
 
-fn differs_narrow(next: Cursor, wanted: &[u64], found: &[u32]) -> Difference
-    ensures { result ≡ sound next (difference 0 wanted.now found.now) }
-{
-    counted(next, replayed::first_difference_narrow(wanted, found))
-}
-
-// A list of the text against an array of u64. The scratch array has its room.
-pub fn check(text: &[u8], p: Cursor, scratch: &mut [u64], found: &[u64]) -> Checked
+// A list of the text against an array. The scratch array has its room.
+pub fn check<T: Number>(text: &[u8], p: Cursor, scratch: &mut [u64], found: &[T]) -> Checked
     requires { length found.now ≤ length scratch.old }
-    ensures { result ≡ checked_at text.now found.now p }
+    ensures { result ≡ checked_at text.now (T.values found.now) p }
 {
     let n = found.len();
     let wanted = &mut scratch[..n];
     let next = expected(text, p, wanted);
-    let d = differs(next, wanted, found);
-    Checked { found: d, next }
-}
-
-// The same, against an array of u32.
-pub fn check_narrow(text: &[u8], p: Cursor, scratch: &mut [u64], found: &[u32]) -> Checked
-    requires { length found.now ≤ length scratch.old }
-    ensures { result ≡ checked_at text.now found.now p }
-{
-    let n = found.len();
-    let wanted = &mut scratch[..n];
-    let next = expected(text, p, wanted);
-    let d = differs_narrow(next, wanted, found);
-    Checked { found: d, next }
+    let found = differs(next, wanted, found);
+    Checked { found, next }
 }
 
 // A call that is asked: its number, its part, the room of each array that is lent to it, and the place behind its head.
@@ -228,14 +178,14 @@ pub fn next_call(text: &[u8], p: Cursor) -> Asked
     ensures is { result ≡ asked_at text.now p }
     ensures within { Within result }
 {
-    let code = bounded(text, p, true, 99, LONG);
-    let part = bounded(text, code.next, true, 4294967295, LARGE);
-    let a = bounded(text, part.next, true, 45056, LONG);
-    let b = bounded(text, a.next, true, 45056, LONG);
-    let c = bounded(text, b.next, true, 45056, LONG);
-    let d = bounded(text, c.next, true, 45056, LONG);
-    let e = bounded(text, d.next, true, 45056, LONG);
-    let work = bounded(text, e.next, true, 45056, LONG);
+    let code = bounded(text, p, true, 99, Fault::Long);
+    let part = bounded(text, code.next, true, 4294967295, Fault::Large);
+    let a = bounded(text, part.next, true, 45056, Fault::Long);
+    let b = bounded(text, a.next, true, 45056, Fault::Long);
+    let c = bounded(text, b.next, true, 45056, Fault::Long);
+    let d = bounded(text, c.next, true, 45056, Fault::Long);
+    let e = bounded(text, d.next, true, 45056, Fault::Long);
+    let work = bounded(text, e.next, true, 45056, Fault::Long);
     let next = work.next;
     Asked {
         code: code.value as usize,

@@ -6,7 +6,6 @@ use mathlib.Core.Path.{◌≡◌, refl, sym, ap, ◌∙◌}
 use native.Mathlib.Nat.{not-suc-le-zero, le_of_suc-le-suc}
 use native.Mathlib.Numerals.{add-one}
 use native.Mathlib.Omega.{arith}
-use borrow.Author.Fill.{fill_more}
 use borrow.Author.Tests.{eqb-true, leb-true, lt-ltb, le-ltb, le-leb, lt-leb, eq-eqb, ne_eqb}
 use lib.Dec.{eqb, leb}
 use lib.ListN.{length, get_or, set, drop, replicate, drop_of_length-le}
@@ -116,11 +115,6 @@ pub others_more : (l₀ l : List ℕ) (n : ℕ) → n < length l₀ → l ≡ ot
     → set l n (other n) ≡ others 0 (n + 1) ++ drop (n + 1) l₀
 others_more l₀ l n h e =
     ap (λ (t : List ℕ). set t n (other n)) e ∙ rw add-one (others_suc 0 n (other n) l₀ (ap other (omega arith)) h)
-
--- a store of 0 at n makes one zero more
-pub zeros_more : (l₀ l : List ℕ) (n : ℕ) → n < length l₀ → l ≡ replicate n 0 ++ drop n l₀
-    → set l n 0 ≡ replicate (n + 1) 0 ++ drop (n + 1) l₀
-zeros_more l₀ l n h e = ap (λ (t : List ℕ). set t n 0) e ∙ fill_more n 0 l₀ h
 
 -- a front that has grown to the whole list is the list
 pub front_whole : (front : ℕ → List ℕ) (l₀ l : List ℕ) (n : ℕ) → n ≤ length l₀ → length l₀ ≤ n → l ≡ front n ++ drop n l₀

@@ -3,5 +3,5 @@ use mathlib.Core.Path.{◌∙◌}
 use Rattle.replay_text.proofs.differs.Goals as goal
 
 pub returns : goal.returns
-returns c =
+returns g c =
     c.counted.ensures ∙ rw c.first_difference.ensures
