@@ -2,6 +2,7 @@
 // disagreements there are. docs/REPLAY.md has the form.
 #![tactic(auto)]
 
+use replay_text::Fault;
 use replaying::Run;
 
 // The descriptor of standard input.
@@ -40,7 +41,7 @@ fn compare(text: &[u8]) -> Run {
 fn replay(text: &mut [u8]) {
     let n = io::read_full(STDIN, text);
     if n == text.len() {
-        replay_lines::fault(0, replay_text::LONG);
+        replay_lines::fault(0, Fault::Long);
         replay_lines::total(0, 0, 1);
         return;
     }

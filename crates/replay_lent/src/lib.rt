@@ -31,8 +31,8 @@ fn load(
     let answer = replay_text::list(text, p, said);
     let first = replay_text::list(text, answer.next, a);
     let second = replay_text::list(text, first.next, b);
-    let third = replay_text::narrow_list(text, second.next, c);
-    replay_text::narrow_list(text, third.next, d);
+    let third = replay_text::list(text, second.next, c);
+    replay_text::list(text, third.next, d);
 }
 
 // The lists that are given to the call.
@@ -62,9 +62,9 @@ fn fill(a: &mut [u64], b: &mut [u64], c: &mut [u32], d: &mut [u32], e: &mut [u32
 {
     replayed::fill(a);
     replayed::fill(b);
-    replayed::fill_narrow(c);
-    replayed::fill_narrow(d);
-    replayed::fill_narrow(e);
+    replayed::fill(c);
+    replayed::fill(d);
+    replayed::fill(e);
     replayed::fill(work);
 }
 

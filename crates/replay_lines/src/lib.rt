@@ -2,7 +2,7 @@
 #![tactic(auto)]
 
 use replay_one::Compared;
-use replayed::Difference;
+use replay_text::Fault;
 
 fn call_name(code: usize) {
     let names =
@@ -11,41 +11,38 @@ fn call_name(code: usize) {
     io::write_all(1, texts::nth(names, n));
 }
 
-// The place of an array's name in `list_name`'s texts, by the call's number and its own: 0 the answer, 1 to 5 the lists, 6 the work area.
-fn list_place(code: usize, what: usize) -> usize {
-    if what == 0 {
-        return 1;
-    }
-    if what == 6 {
-        return 2;
-    }
-    if 11 < code {
-        return 15;
-    }
-    if 7 < what {
-        return 15;
-    }
-    match code * 8 + what {
-        33 => 3,
-        34 => 4,
-        49 | 89 => 5,
-        51 | 91 => 6,
-        52 | 92 => 7,
-        57 => 8,
-        59 | 85 => 9,
-        65 => 10,
-        66 => 11,
-        83 => 12,
-        84 => 13,
-        53 => 14,
-        _ => 0,
-    }
+// The arrays that a call leaves: its answer, five that are lent to it, and its work area.
+#[derive(Clone, Copy)]
+enum Array {
+    Answer,
+    A,
+    B,
+    C,
+    D,
+    E,
+    Work,
 }
 
-fn list_name(code: usize, what: usize) {
-    let names =
-        b"list\x00answer\x00work\x00starts\x00marks\x00keys\x00counts\x00heads\x00ticks\x00words\x00places\x00details\x00sizes\x00deltas\x00leftovers";
-    io::write_all(1, texts::nth(names, list_place(code, what)));
+// What a call writes to an array.
+fn array_name(code: usize, array: Array) -> &'static [u8] {
+    match (code, array) {
+        (_, Array::Answer) => b"answer",
+        (_, Array::Work) => b"work",
+        (4, Array::A) => b"starts",
+        (4, Array::B) => b"marks",
+        (6 | 11, Array::A) => b"keys",
+        (6 | 11, Array::C) => b"counts",
+        (6 | 11, Array::D) => b"heads",
+        (6, Array::E) => b"leftovers",
+        (7, Array::A) => b"ticks",
+        (7, Array::C) | (10, Array::E) => b"words",
+        (8, Array::A) => b"places",
+        (8, Array::B) => b"details",
+        (10, Array::C) => b"sizes",
+        (10, Array::D) => b"deltas",
+        (0..=11, _) => b"list",
+        _ => b"",
+    }
 }
 
 // A line's begin: the piece.
@@ -56,14 +53,14 @@ fn begin(item: u64) {
 }
 
 // A line where an array differs: of a piece the call, its number, and the array.
-fn differs(item: u64, call: u64, code: usize, what: usize, found: Difference) {
-    if let Difference::At(i) = found {
+fn differs(item: u64, call: u64, code: usize, array: Array, found: Option<usize>) {
+    if let Some(i) = found {
         begin(item);
         io::write_all(1, b"call ");
         io::print_decimal(1, call);
         io::write_all(1, b", ");
         call_name(code);
-        list_name(code, what);
+        io::write_all(1, array_name(code, array));
         io::write_all(1, b", element ");
         io::print_decimal(1, i as u64);
         io::write_all(1, b"\n");
@@ -72,20 +69,13 @@ fn differs(item: u64, call: u64, code: usize, what: usize, found: Difference) {
 
 // The lines of a call.
 pub fn differences(item: u64, call: u64, code: usize, r: Compared) {
-    let said = r.said;
-    let a = r.a;
-    let b = r.b;
-    let c = r.c;
-    let d = r.d;
-    let e = r.e;
-    let work = r.work;
-    differs(item, call, code, 0, said);
-    differs(item, call, code, 1, a);
-    differs(item, call, code, 2, b);
-    differs(item, call, code, 3, c);
-    differs(item, call, code, 4, d);
-    differs(item, call, code, 5, e);
-    differs(item, call, code, 6, work);
+    differs(item, call, code, Array::Answer, r.said);
+    differs(item, call, code, Array::A, r.a);
+    differs(item, call, code, Array::B, r.b);
+    differs(item, call, code, Array::C, r.c);
+    differs(item, call, code, Array::D, r.d);
+    differs(item, call, code, Array::E, r.e);
+    differs(item, call, code, Array::Work, r.work);
 }
 
 // A line on the list itself.
@@ -106,11 +96,13 @@ pub fn more(item: u64) {
 }
 
 // A line where the list could not be read to its end.
-pub fn fault(item: u64, why: usize) {
-    let reasons =
-        b"too long\x00the list ends early\x00no number where one is due\x00too large a number";
-    let n = if replay_text::LARGE < why { 0 } else { why };
-    says(item, texts::nth(reasons, n));
+pub fn fault(item: u64, why: Fault) {
+    match why {
+        Fault::Ends => says(item, b"the list ends early"),
+        Fault::Word => says(item, b"no number where one is due"),
+        Fault::Large => says(item, b"too large a number"),
+        Fault::Long => says(item, b"too long"),
+    }
 }
 
 // The last line.

@@ -2,11 +2,12 @@
 use Prim.Native.Nat.{ℕ}
 use mathlib.Core.List.{List}
 use mathlib.Core.Path.{◌≡◌}
-use borrow.Author.Tests.{eq-eqb, ne_eqb}
+use mathlib.Core.Bool.{true, false}
+use Rattle.std.specs.Prelude.{Option}
+use Rattle.std.specs.Option.{is_some}
 use Rattle.rules.specs.Lists.{cleared}
 use Rattle.rules.specs.Piece.{Piece}
 use Rattle.replayed.specs.Differences.{difference}
-use Rattle.replayed.specs.declared.Difference.{Difference}
 use Rattle.replay_text.specs.Calls.{asked_at}
 use Rattle.replay_text.specs.Checks.{sound, checked_at}
 use Rattle.replay_text.specs.declared.Asked.{Asked}
@@ -18,7 +19,7 @@ use Rattle.replay_one.specs.Comparing.{compared_at, uncompared, called_at}
 use Rattle.replay_one.specs.declared.Compared.{Compared}
 
 -- what a call left, list by list
-pub compared_is : (text : List ℕ) (p : Cursor) (s a b c d e w : List ℕ) (rs ra rb rc rd re : Checked) (z nil : Difference)
+pub compared_is : (text : List ℕ) (p : Cursor) (s a b c d e w : List ℕ) (rs ra rb rc rd re : Checked) (z nil : Option ℕ)
     → rs ≡ checked_at text s p
     → ra ≡ checked_at text a rs.next
     → rb ≡ checked_at text b ra.next
@@ -42,10 +43,10 @@ compared_is text p s a b c d e w rs ra rb rc rd re z nil es ea eb ec ed ee ez en
 
 -- a call that is asked, made and compared, or not read
 module _ (text : List ℕ) (x : Piece) (bytes : List ℕ) (p : Cursor) (q : Asked) (r : Compared) (e : q ≡ asked_at text p) where
-  pub called_unread : (q.next.fault ≡ 0 → ⊥) → r ≡ uncompared q.next → r ≡ called_at text x bytes p
+  pub called_unread : is_some q.next.fault ≡ true → r ≡ uncompared q.next → r ≡ called_at text x bytes p
   unfolding called_at
-  called_unread h er = rw (er, ← e, ne_eqb _ _ h)
+  called_unread h er = rw (er, ← e, h)
 
-  pub called_made : q.next.fault ≡ 0 → r ≡ compared_at text q.next (leaves text x bytes q) → r ≡ called_at text x bytes p
+  pub called_made : is_some q.next.fault ≡ false → r ≡ compared_at text q.next (leaves text x bytes q) → r ≡ called_at text x bytes p
   unfolding called_at
-  called_made h er = rw (er, ← e, eq-eqb _ _ h)
+  called_made h er = rw (er, ← e, h)

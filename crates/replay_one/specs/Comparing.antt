@@ -1,9 +1,9 @@
 -- One call of the text: what is lent to it, and what it left against the text's lists.
-use Rattle.std.specs.Prelude.{ℕ, ◌+◌, cond, List, eqb}
+use Rattle.std.specs.Prelude.{ℕ, ◌+◌, cond, List, None}
+use Rattle.std.specs.Option.{is_some}
 use Rattle.rules.specs.Lists.{cleared}
 use Rattle.rules.specs.Piece.{Piece}
 use Rattle.replayed.specs.Differences.{difference, bit}
-use Rattle.replayed.specs.declared.Difference.TheVariants.{Nothing}
 use Rattle.replay_text.specs.Calls.{asked_at}
 use Rattle.replay_text.specs.Checks.{sound, checked_at}
 use Rattle.replay_text.specs.declared.Cursor.{Cursor}
@@ -33,13 +33,13 @@ compared_at text p l =
 
 -- nothing is compared where the call could not be read
 abbrev pub uncompared : Cursor → Compared
-uncompared p = record { said = Nothing; a = Nothing; b = Nothing; c = Nothing; d = Nothing; e = Nothing; work = Nothing; next = p }
+uncompared p = record { said = None; a = None; b = None; c = None; d = None; e = None; work = None; next = p }
 
 -- the next call of the text, of a piece or a file's bytes, made and compared
 unfoldable pub called_at : List ℕ → Piece → List ℕ → Cursor → Compared
 called_at text x bytes p =
     let q = asked_at text p in
-    cond (eqb q.next.fault 0) (compared_at text q.next (leaves text x bytes q)) (uncompared q.next)
+    cond (is_some q.next.fault) (uncompared q.next) (compared_at text q.next (leaves text x bytes q))
 
 -- how many of the seven differ
 unfoldable pub wrong_of : Compared → ℕ

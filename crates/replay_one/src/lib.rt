@@ -9,18 +9,17 @@ ghost use Rattle.replay_one.specs.Rooms.{CutTo, Roomy};
 ghost use Rattle.replay_lent.specs.Lent.{leaves};
 
 use replay_text::{Asked, Cursor};
-use replayed::Difference;
 
 // What a call left, against the text: the first difference of the answer, of each list and of the work area, and the place behind the call.
 #[derive(Clone, Copy)]
 pub struct Compared {
-    pub said: Difference,
-    pub a: Difference,
-    pub b: Difference,
-    pub c: Difference,
-    pub d: Difference,
-    pub e: Difference,
-    pub work: Difference,
+    pub said: Option<usize>,
+    pub a: Option<usize>,
+    pub b: Option<usize>,
+    pub c: Option<usize>,
+    pub d: Option<usize>,
+    pub e: Option<usize>,
+    pub work: Option<usize>,
     pub next: Cursor,
 }
 
@@ -45,9 +44,9 @@ fn compare(
     let answer = replay_text::check(text, p, scratch, said);
     let first = replay_text::check(text, answer.next, scratch, a);
     let second = replay_text::check(text, first.next, scratch, b);
-    let third = replay_text::check_narrow(text, second.next, scratch, c);
-    let fourth = replay_text::check_narrow(text, third.next, scratch, d);
-    let fifth = replay_text::check_narrow(text, fourth.next, scratch, e);
+    let third = replay_text::check(text, second.next, scratch, c);
+    let fourth = replay_text::check(text, third.next, scratch, d);
+    let fifth = replay_text::check(text, fourth.next, scratch, e);
     let next = fifth.next;
     let zero = replay_text::counted(next, replayed::first_not_zero(work));
     let in_said = answer.found;
@@ -100,13 +99,13 @@ fn unread(next: Cursor) -> Compared
     ensures { result ≡ uncompared next }
 {
     Compared {
-        said: Difference::Nothing,
-        a: Difference::Nothing,
-        b: Difference::Nothing,
-        c: Difference::Nothing,
-        d: Difference::Nothing,
-        e: Difference::Nothing,
-        work: Difference::Nothing,
+        said: None,
+        a: None,
+        b: None,
+        c: None,
+        d: None,
+        e: None,
+        work: None,
         next,
     }
 }
@@ -132,7 +131,7 @@ pub fn one(
 {
     let q = replay_text::next_call(text, p);
     let behind = q.next;
-    if behind.fault != 0 {
+    if behind.fault.is_some() {
         return unread(behind);
     }
     let la = q.a;

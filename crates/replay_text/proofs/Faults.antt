@@ -1,10 +1,11 @@
 -- A fault stays: behind a place that has one every place has it. So where none stands behind, none stood before.
 use Prim.Native.Nat.{ℕ, zero, suc}
-use mathlib.Core.Bool.{Bool}
+use mathlib.Core.Bool.{Bool, true}
 use mathlib.Core.List.{List}
 use mathlib.Core.Logic.{⊎_elim}
 use mathlib.Core.Path.{◌≡◌, refl, sym}
 use Rattle.std.specs.Prelude.{Option, Some, None}
+use Rattle.std.specs.Option.{is_some}
 use Rattle.std.proofs.lemmas.Option.{none-some}
 use Rattle.laws.proofs.Order.{by_le}
 use Rattle.replay_text.specs.Numbers.{number_at, bounded_at, row, list_at, long, large}
@@ -18,10 +19,15 @@ pub by_fault : {P : Type 0} (o : Option Fault) → (o ≡ None → P) → ((why 
 by_fault None none some = none refl
 by_fault (Some why) none some = some why refl
 
+-- where a fault would be none there is none
+pub fault_kept : (o : Option Fault) → (is_some o ≡ true → o ≡ None) → o ≡ None
+fault_kept None h = refl
+fault_kept (Some why) h = h refl
+
 module _ (text : List ℕ) where
   pub number_sound : (label : Bool) (p : Cursor) → (number_at label text p).next.fault ≡ None → p.fault ≡ None
   unfolding number_at
-  number_sound label p h = by_fault p.fault (λ e. e) (λ why e. absurd (none-some why (sym (rw e at h))))
+  number_sound label p h = fault_kept p.fault (λ e. rw e at h)
 
   pub bounded_sound : (label : Bool) (most : ℕ) (why : Fault) (p : Cursor) → (bounded_at label most why text p).next.fault ≡ None → p.fault ≡ None
   bounded_sound label most why p h =

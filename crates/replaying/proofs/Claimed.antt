@@ -1,9 +1,11 @@
 -- The claim of specs/Claims.antt: check by check, call by call, piece by piece.
 use Prim.Native.Nat.{ℕ, zero, suc, ◌+◌}
 use mathlib.Core.Bool.{true}
+use Rattle.std.specs.Prelude.{Option, Some, None}
+use Rattle.std.specs.Option.{is_some}
 use mathlib.Core.List.{List}
 use mathlib.Core.Logic.{⊎_elim}
-use mathlib.Core.Path.{◌≡◌, refl, sym, ◌∙◌}
+use mathlib.Core.Path.{◌≡◌, refl, ap, sym, ◌∙◌}
 use native.Mathlib.Omega.{arith}
 use borrow.Author.Tests.{eq-eqb, ne_eqb, lt-ltb, le-ltb}
 use lib.ListN.{length}
@@ -12,12 +14,12 @@ use Rattle.rules.specs.Piece.{Piece}
 use Rattle.laws.proofs.Order.{by_eq, by_lt}
 use Rattle.replayed.proofs.Claimed.{nothing_is_equal, equal_is_nothing}
 use Rattle.replayed.specs.Differences.{difference, bit}
-use Rattle.replayed.specs.declared.Difference.{Difference}
-use Rattle.replayed.specs.declared.Difference.TheVariants.{At, Nothing}
-use Rattle.replay_text.proofs.Faults.{number_sound, bounded_sound, list_sound}
+use Rattle.replay_text.proofs.Faults.{by_fault, fault_kept, number_sound, bounded_sound, list_sound}
 use Rattle.replay_text.specs.Calls.{asked_at}
 use Rattle.replay_text.specs.Checks.{wanted_at, checked_at}
-use Rattle.replay_text.specs.Numbers.{number_at, most_wide, most_narrow, most_byte, ends}
+use Rattle.replay_text.specs.Numbers.{number_at, most_wide, most_narrow, most_byte, ends, long}
+use Rattle.replay_text.specs.declared.Fault.{Fault}
+use Rattle.replay_text.specs.declared.Fault.TheVariants.{Ends, Word, Large, Long}
 use Rattle.replay_text.specs.declared.Cursor.{Cursor}
 use Rattle.replay_text.specs.declared.Numbered.{Numbered}
 use Rattle.replay_calls.specs.Outcomes.{Left}
@@ -25,7 +27,7 @@ use Rattle.replay_one.specs.Comparing.{compared_at, called_at, wrong_of}
 use Rattle.replay_lent.specs.Lent.{leaves}
 use Rattle.replaying.specs.Claims.{behind, AsWritten, CallAgrees, Each, PieceAgrees, NoneExactly}
 use Rattle.replaying.specs.Running.{iterate, more, events_at, most_sizes, most_events, most_bytes, other_than, piece_at, call_turn, call_start, calls_at}
-use Rattle.replaying.specs.Running.{piece_start, piece_turn, piece_count, begin, pieces_at, one_more, finished, replay_of}
+use Rattle.replaying.specs.Running.{piece_start, piece_turn, piece_count, begin, pieces_at, one_more, after_last, finished, replay_of}
 use Rattle.replaying.specs.declared.Run.{Run}
 
 -- ---- counts
@@ -38,9 +40,9 @@ more_zero n k h =
     (λ e. let s : n ≡ 0 = rw (le-ltb n 1000000000000 e) at h in absurd (omega arith))
     (by_lt n 1000000000000)
 
-bit_zero : (d : Difference) → bit d ≡ 0 → d ≡ Nothing
-bit_zero (At i) h = absurd (omega arith)
-bit_zero Nothing h = refl
+bit_zero : (d : Option ℕ) → bit d ≡ 0 → d ≡ None
+bit_zero (Some i) h = absurd (omega arith)
+bit_zero None h = refl
 
 -- ---- one list
 
@@ -73,27 +75,27 @@ module _ (text : List ℕ) (p : Cursor) (l : Left) where
   differs : Cursor → List ℕ → ℕ
   differs q x = bit (difference 0 (wanted_at text (length x) q) x)
 
-  module _ (h : (compared_at text p l).next.fault ≡ 0) where
-    at_end : (behind text at_e l.e).fault ≡ 0
+  module _ (h : (compared_at text p l).next.fault ≡ None) where
+    at_end : (behind text at_e l.e).fault ≡ None
     unfolding compared_at checked_at at_a at_b at_c at_d at_e
     at_end = h
 
-    in_e : at_e.fault ≡ 0
+    in_e : at_e.fault ≡ None
     in_e = list_sound text most_wide (length l.e) at_e at_end
 
-    in_d : at_d.fault ≡ 0
+    in_d : at_d.fault ≡ None
     unfolding at_e
     in_d = list_sound text most_wide (length l.d) at_d in_e
 
-    in_c : at_c.fault ≡ 0
+    in_c : at_c.fault ≡ None
     unfolding at_d
     in_c = list_sound text most_wide (length l.c) at_c in_d
 
-    in_b : at_b.fault ≡ 0
+    in_b : at_b.fault ≡ None
     unfolding at_c
     in_b = list_sound text most_wide (length l.b) at_b in_c
 
-    in_a : at_a.fault ≡ 0
+    in_a : at_a.fault ≡ None
     unfolding at_b
     in_a = list_sound text most_wide (length l.a) at_a in_b
 
@@ -103,12 +105,12 @@ module _ (text : List ℕ) (p : Cursor) (l : Left) where
     unfolding wrong_of compared_at checked_at differs at_a at_b at_c at_d at_e
     wrong_is =
         rw (
-          eq-eqb at_a.fault 0 in_a,
-          eq-eqb at_b.fault 0 in_b,
-          eq-eqb at_c.fault 0 in_c,
-          eq-eqb at_d.fault 0 in_d,
-          eq-eqb at_e.fault 0 in_e,
-          eq-eqb (behind text at_e l.e).fault 0 at_end,
+          ap is_some in_a,
+          ap is_some in_b,
+          ap is_some in_c,
+          ap is_some in_d,
+          ap is_some in_e,
+          ap is_some at_end,
         )
 
     pub none_written : wrong_of (compared_at text p l) ≡ 0 → AsWritten text p l
@@ -141,14 +143,14 @@ module _ (text : List ℕ) (p : Cursor) (l : Left) where
         )
 
 -- a call that was asked and compared, without a fault behind it
-module _ (text : List ℕ) (x : Piece) (bytes : List ℕ) (p : Cursor) (h : (called_at text x bytes p).next.fault ≡ 0) where
-  asked_sound : (asked_at text p).next.fault ≡ 0
+module _ (text : List ℕ) (x : Piece) (bytes : List ℕ) (p : Cursor) (h : (called_at text x bytes p).next.fault ≡ None) where
+  asked_sound : (asked_at text p).next.fault ≡ None
   unfolding called_at
-  asked_sound = ⊎_elim (λ e. e) (λ e. rw (ne_eqb (asked_at text p).next.fault 0 e) at h) (by_eq (asked_at text p).next.fault 0)
+  asked_sound = fault_kept (asked_at text p).next.fault (λ e. rw e at h)
 
   called_is : called_at text x bytes p ≡ compared_at text (asked_at text p).next (leaves text x bytes (asked_at text p))
   unfolding called_at
-  called_is = rw (eq-eqb (asked_at text p).next.fault 0 asked_sound)
+  called_is = rw (ap is_some asked_sound)
 
   pub none_agrees : wrong_of (called_at text x bytes p) ≡ 0 → CallAgrees text x bytes p
   none_agrees e = none_written text _ _ (rw called_is at h) (rw called_is at e)
@@ -160,17 +162,17 @@ module _ (text : List ℕ) (x : Piece) (bytes : List ℕ) (p : Cursor) (h : (cal
 
 -- a turn keeps a fault, and counts no disagreement just where P holds
 pub record Fair (turn : Run → Run) (P : Run → Type 0) : Type 0 where
-  pub keeps : (s : Run) → (turn s).next.fault ≡ 0 → s.next.fault ≡ 0
-  pub none_holds : (s : Run) → (turn s).next.fault ≡ 0 → (turn s).wrong ≡ 0 → (s.wrong ≡ 0) × P s
-  pub holds_none : (s : Run) → (turn s).next.fault ≡ 0 → s.wrong ≡ 0 → P s → (turn s).wrong ≡ 0
+  pub keeps : (s : Run) → (turn s).next.fault ≡ None → s.next.fault ≡ None
+  pub none_holds : (s : Run) → (turn s).next.fault ≡ None → (turn s).wrong ≡ 0 → (s.wrong ≡ 0) × P s
+  pub holds_none : (s : Run) → (turn s).next.fault ≡ None → s.wrong ≡ 0 → P s → (turn s).wrong ≡ 0
 
 module _ {turn : Run → Run} {P : Run → Type 0} (fair : Fair turn P) where
-  pub start_sound : (n : ℕ) (s : Run) → (iterate n turn s).next.fault ≡ 0 → s.next.fault ≡ 0
+  pub start_sound : (n : ℕ) (s : Run) → (iterate n turn s).next.fault ≡ None → s.next.fault ≡ None
   unfolding iterate
   start_sound zero s h = h
   start_sound (suc n) s h = fair.keeps s (start_sound n (turn s) h)
 
-  pub none_each : (n : ℕ) (s : Run) → (iterate n turn s).next.fault ≡ 0 → (iterate n turn s).wrong ≡ 0 → (s.wrong ≡ 0) × Each n turn P s
+  pub none_each : (n : ℕ) (s : Run) → (iterate n turn s).next.fault ≡ None → (iterate n turn s).wrong ≡ 0 → (s.wrong ≡ 0) × Each n turn P s
   unfolding iterate
   none_each zero s h e = (e, tt)
   none_each (suc n) s h e =
@@ -178,7 +180,7 @@ module _ {turn : Run → Run} {P : Run → Type 0} (fair : Fair turn P) where
       let first = fair.none_holds s (start_sound n (turn s) h) rest.0 in
       (first.0, (first.1, rest.1))
 
-  pub each_none : (n : ℕ) (s : Run) → (iterate n turn s).next.fault ≡ 0 → s.wrong ≡ 0 → Each n turn P s → (iterate n turn s).wrong ≡ 0
+  pub each_none : (n : ℕ) (s : Run) → (iterate n turn s).next.fault ≡ None → s.wrong ≡ 0 → Each n turn P s → (iterate n turn s).wrong ≡ 0
   unfolding iterate
   each_none zero s h e w = e
   each_none (suc n) s h e w = each_none n (turn s) h (fair.holds_none s (start_sound n (turn s) h) e w.0) w.1
@@ -186,11 +188,11 @@ module _ {turn : Run → Run} {P : Run → Type 0} (fair : Fair turn P) where
 -- ---- the calls of a piece
 
 module _ (text : List ℕ) (x : Piece) (bytes : List ℕ) where
-  call_keeps : (s : Run) → (call_turn text x bytes s).next.fault ≡ 0 → s.next.fault ≡ 0
+  call_keeps : (s : Run) → (call_turn text x bytes s).next.fault ≡ None → s.next.fault ≡ None
   unfolding call_turn
-  call_keeps s h = ⊎_elim (λ e. e) (λ e. rw (ne_eqb s.next.fault 0 e) at h) (by_eq s.next.fault 0)
+  call_keeps s h = fault_kept s.next.fault (λ e. rw e at h)
 
-  module _ (s : Run) (h : (call_turn text x bytes s).next.fault ≡ 0) where
+  module _ (s : Run) (h : (call_turn text x bytes s).next.fault ≡ None) where
     turn_is : call_turn text x bytes s ≡ record {
       next = (called_at text x bytes s.next).next;
       pieces = s.pieces;
@@ -198,9 +200,9 @@ module _ (text : List ℕ) (x : Piece) (bytes : List ℕ) where
       wrong = more s.wrong (wrong_of (called_at text x bytes s.next));
     }
     unfolding call_turn
-    turn_is = rw (eq-eqb s.next.fault 0 (call_keeps s h))
+    turn_is = rw (ap is_some (call_keeps s h))
 
-    behind_sound : (called_at text x bytes s.next).next.fault ≡ 0
+    behind_sound : (called_at text x bytes s.next).next.fault ≡ None
     behind_sound = rw turn_is at h
 
     call_none : (call_turn text x bytes s).wrong ≡ 0 → (s.wrong ≡ 0) × CallAgrees text x bytes s.next
@@ -216,32 +218,32 @@ module _ (text : List ℕ) (x : Piece) (bytes : List ℕ) where
 
 -- ---- the pieces
 
-module _ (due : ℕ) (n : Numbered) (h : n.next.fault ≡ 0) where
+module _ (due : ℕ) (n : Numbered) (h : n.next.fault ≡ None) where
   none_due : other_than due n ≡ 0 → n.value ≡ due
   unfolding other_than
   none_due e =
       ⊎_elim (λ t. t)
-      (λ t. let z : ◌≡◌ {A = ℕ} 1 0 = rw (eq-eqb n.next.fault 0 h, ne_eqb n.value due t) at e in absurd (omega arith))
+      (λ t. let z : ◌≡◌ {A = ℕ} 1 0 = rw (ap is_some h, ne_eqb n.value due t) at e in absurd (omega arith))
       (by_eq n.value due)
 
   due_none : n.value ≡ due → other_than due n ≡ 0
   unfolding other_than
-  due_none e = rw (eq-eqb n.next.fault 0 h, eq-eqb n.value due e)
+  due_none e = rw (ap is_some h, eq-eqb n.value due e)
 
 -- behind a piece without a fault its number has none
-number_read : (text : List ℕ) (due : ℕ) (p : Cursor) → (piece_at text due p).next.fault ≡ 0 → (number_at true text p).next.fault ≡ 0
+number_read : (text : List ℕ) (due : ℕ) (p : Cursor) → (piece_at text due p).next.fault ≡ None → (number_at true text p).next.fault ≡ None
 unfolding piece_at events_at
 number_read text due p h =
     let words = list_sound text most_byte most_bytes _ h in
-    bounded_sound text true most_events 3 _
+    bounded_sound text true most_events long _
     (list_sound text most_narrow most_sizes _ (list_sound text most_narrow most_events _ (list_sound text most_narrow most_events _ words)))
 
 module _ (text : List ℕ) where
-  piece_keeps : (s : Run) → (piece_turn text s).next.fault ≡ 0 → s.next.fault ≡ 0
+  piece_keeps : (s : Run) → (piece_turn text s).next.fault ≡ None → s.next.fault ≡ None
   unfolding piece_turn
-  piece_keeps s h = ⊎_elim (λ e. e) (λ e. rw (ne_eqb s.next.fault 0 e) at h) (by_eq s.next.fault 0)
+  piece_keeps s h = fault_kept s.next.fault (λ e. rw e at h)
 
-  module _ (s : Run) (h : (piece_turn text s).next.fault ≡ 0) where
+  module _ (s : Run) (h : (piece_turn text s).next.fault ≡ None) where
     given : Piece
     given = (piece_at text s.pieces s.next).given
 
@@ -253,12 +255,12 @@ module _ (text : List ℕ) where
 
     piece_is : piece_turn text s ≡ iterate count (call_turn text given file) (call_start text (piece_start text s))
     unfolding piece_turn calls_at given file count
-    piece_is = rw (eq-eqb s.next.fault 0 (piece_keeps s h))
+    piece_is = rw (ap is_some (piece_keeps s h))
 
-    calls_sound : (iterate count (call_turn text given file) (call_start text (piece_start text s))).next.fault ≡ 0
+    calls_sound : (iterate count (call_turn text given file) (call_start text (piece_start text s))).next.fault ≡ None
     calls_sound = rw piece_is at h
 
-    number_fine : (number_at true text s.next).next.fault ≡ 0
+    number_fine : (number_at true text s.next).next.fault ≡ None
     number_fine =
         number_read text s.pieces s.next
         (number_sound text true (piece_start text s).next (start_sound (calls_fair text given file) count (call_start text (piece_start text s)) calls_sound))
@@ -290,22 +292,26 @@ one_more_lem : (s : Run) → (one_more s).wrong ≡ 0 → ⊥
 unfolding one_more
 one_more_lem s h = let both = more_zero s.wrong 1 h in omega arith
 
+-- nothing stands behind the last piece just where the text ends there
+after_last_none : (o : Option Fault) (s : Run) → (after_last o s).wrong ≡ 0 → (o ≡ Some ends) × (s.wrong ≡ 0)
+after_last_none None s h = absurd (one_more_lem s h)
+after_last_none (Some Ends) s h = (refl, h)
+after_last_none (Some Word) s h = absurd (one_more_lem s h)
+after_last_none (Some Large) s h = absurd (one_more_lem s h)
+after_last_none (Some Long) s h = absurd (one_more_lem s h)
+
 module _ (text : List ℕ) where
   finished_none : (s : Run) → (finished text s).wrong ≡ 0
-      → (s.next.fault ≡ 0) × ((number_at true text s.next).next.fault ≡ ends) × (s.wrong ≡ 0)
+      → (s.next.fault ≡ None) × ((number_at true text s.next).next.fault ≡ Some ends) × (s.wrong ≡ 0)
   unfolding finished
   finished_none s h =
-      ⊎_elim
-      (λ e. ⊎_elim
-      (λ t. (e, t, rw (eq-eqb s.next.fault 0 e, eq-eqb (number_at true text s.next).next.fault ends t) at h))
-      (λ t. absurd (one_more_lem s (rw (eq-eqb s.next.fault 0 e, ne_eqb (number_at true text s.next).next.fault ends t) at h)))
-      (by_eq (number_at true text s.next).next.fault ends))
-      (λ e. absurd (one_more_lem s (rw (ne_eqb s.next.fault 0 e) at h)))
-      (by_eq s.next.fault 0)
+      by_fault s.next.fault
+      (λ e. let both = after_last_none (number_at true text s.next).next.fault s (rw (ap is_some e) at h) in (e, both.0, both.1))
+      (λ why e. absurd (one_more_lem s (rw (ap is_some e) at h)))
 
-  none_finished : (s : Run) → s.next.fault ≡ 0 → (number_at true text s.next).next.fault ≡ ends → finished text s ≡ s
+  none_finished : (s : Run) → s.next.fault ≡ None → (number_at true text s.next).next.fault ≡ Some ends → finished text s ≡ s
   unfolding finished
-  none_finished s h e = rw (eq-eqb s.next.fault 0 h, eq-eqb (number_at true text s.next).next.fault ends e)
+  none_finished s h e = rw (ap is_some h, e)
 
 pub none_exactly : NoneExactly
 unfolding replay_of pieces_at

@@ -1,6 +1,8 @@
 -- Turns of a run: a loop's invariant, one call more, one piece more.
 use Prim.Native.Nat.{ℕ, zero, suc, ◌+◌, ◌-◌, ◌≤◌, ◌<◌, zero-le}
-use mathlib.Core.Bool.{true}
+use mathlib.Core.Bool.{Bool, true, false, cond}
+use Rattle.std.specs.Prelude.{Option, Some, None}
+use Rattle.std.specs.Option.{is_some}
 use mathlib.Core.List.{List, ◌++◌}
 use mathlib.Core.Path.{◌≡◌, refl, ap, sym, ◌∙◌}
 use native.Mathlib.Nat.{sub-zero}
@@ -21,6 +23,11 @@ use Rattle.replaying.specs.declared.Given.{Given}
 use Rattle.replaying.specs.declared.Run.{Run}
 
 -- ---- loops
+
+-- what a test tells of an option
+pub none_is : {A : Type 0} (o : Option A) → is_some o ≡ false → o ≡ None
+none_is None h = refl
+none_is (Some x) h = let z : ◌≡◌ {A = ℕ} 1 0 = ap (λ (b : Bool). cond b 1 0) h in absurd (omega arith)
 
 module _ {S : Type 0} (f : S → S) where
   -- a state that a turn does not change
@@ -55,15 +62,15 @@ module _ {S : Type 0} (f : S → S) where
 -- ---- one call more
 
 module _ (text : List ℕ) (x : Piece) (bytes : List ℕ) (s : Run) where
-  pub call_turn_lem : (r : Compared) (k calls wrong : ℕ) → s.next.fault ≡ 0
+  pub call_turn_lem : (r : Compared) (k calls wrong : ℕ) → s.next.fault ≡ None
       → r ≡ called_at text x bytes s.next → calls ≡ more s.calls 1 → k ≡ wrong_of r → wrong ≡ more s.wrong k
       → record { next = r.next; pieces = s.pieces; calls = calls; wrong = wrong } ≡ call_turn text x bytes s
   unfolding call_turn
-  call_turn_lem r k calls wrong h er ec ek ew = rw (eq-eqb _ _ h, ew, ek, ec, er)
+  call_turn_lem r k calls wrong h er ec ek ew = rw (ap is_some h, ew, ek, ec, er)
 
-  pub call_still : (s.next.fault ≡ 0 → ⊥) → call_turn text x bytes s ≡ s
+  pub call_still : is_some s.next.fault ≡ true → call_turn text x bytes s ≡ s
   unfolding call_turn
-  call_still h = rw (ne_eqb _ _ h)
+  call_still h = rw h
 
 -- ---- a piece
 
@@ -118,7 +125,7 @@ gave_is text due p number zeros other s d w b sizes deltas words bytes en eo ez 
 -- ---- one piece more
 
 module _ (text : List ℕ) (s : Run) where
-  pub piece_turn_lem : (g : Given) (sizes deltas words bytes : List ℕ) (pieces wrong : ℕ) (r : Run) → s.next.fault ≡ 0
+  pub piece_turn_lem : (g : Given) (sizes deltas words bytes : List ℕ) (pieces wrong : ℕ) (r : Run) → s.next.fault ≡ None
       → Gave (piece_at text s.pieces s.next) g sizes deltas words bytes
       → pieces ≡ more s.pieces 1 → wrong ≡ more s.wrong g.other
       → r ≡ calls_at text (piece (take g.sizes sizes) (take g.deltas deltas) (take g.words words)) (take g.bytes bytes)
@@ -126,8 +133,8 @@ module _ (text : List ℕ) (s : Run) where
       → r ≡ piece_turn text s
   unfolding piece_turn
   piece_turn_lem g sizes deltas words bytes pieces wrong r h gave ep ew er =
-      er ∙ rw (eq-eqb _ _ h, ew, ep, gave.given, gave.file, gave.next, gave.other)
+      er ∙ rw (ap is_some h, ew, ep, gave.given, gave.file, gave.next, gave.other)
 
-  pub piece_still : (s.next.fault ≡ 0 → ⊥) → piece_turn text s ≡ s
+  pub piece_still : is_some s.next.fault ≡ true → piece_turn text s ≡ s
   unfolding piece_turn
-  piece_still h = rw (ne_eqb _ _ h)
+  piece_still h = rw h

@@ -1,5 +1,5 @@
 -- What the count of disagreements comes to, stated for readers and proved in proofs/Claimed.antt.
-use Rattle.std.specs.Prelude.{ℕ, zero, suc, true, List, ◌≡◌, length}
+use Rattle.std.specs.Prelude.{ℕ, zero, suc, true, List, Some, None, ◌≡◌, length}
 use Rattle.rules.specs.Lists.{cleared}
 use Rattle.rules.specs.Piece.{Piece}
 use Rattle.replay_text.specs.Calls.{asked_at}
@@ -48,8 +48,8 @@ pub record PieceAgrees (text : List ℕ) (s : Run) : Type 0 where
 
 -- the whole list: it was read without a fault, nothing stands behind it, and each of its pieces agrees
 pub record ListAgrees (text : List ℕ) : Type 0 where
-  pub read : (pieces_at text).next.fault ≡ 0
-  pub end : (number_at true text (pieces_at text).next).next.fault ≡ ends
+  pub read : (pieces_at text).next.fault ≡ None
+  pub end : (number_at true text (pieces_at text).next).next.fault ≡ Some ends
   pub pieces : Each (piece_count text).value (piece_turn text) (PieceAgrees text) (begin text)
 
 -- no disagreement is counted exactly where the list agrees

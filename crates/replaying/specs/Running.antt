@@ -1,8 +1,11 @@
 -- A run over the whole list: its pieces one after another, each with its calls. A fault ends it: after one every turn changes nothing.
-use Rattle.std.specs.Prelude.{ℕ, zero, suc, ◌+◌, ◌≤◌, true, cond, List, ◌≡◌, eqb, ltb, length, take, replicate}
+use Rattle.std.specs.Prelude.{ℕ, zero, suc, ◌+◌, ◌≤◌, true, cond, List, Option, Some, None, ◌≡◌, eqb, ltb, length, take, replicate}
+use Rattle.std.specs.Option.{is_some}
 use Rattle.rules.specs.Piece.{Piece, piece}
-use Rattle.replay_text.specs.Numbers.{Numbers, number_at, bounded_at, list_at, most_narrow, most_byte, ends, long}
+use Rattle.replay_text.specs.Numbers.{Numbers, number_at, bounded_at, list_at, most_narrow, most_byte, long}
 use Rattle.replay_text.specs.declared.Cursor.{Cursor}
+use Rattle.replay_text.specs.declared.Fault.{Fault}
+use Rattle.replay_text.specs.declared.Fault.TheVariants.{Ends, Word, Large, Long}
 use Rattle.replay_text.specs.declared.Numbered.{Numbered}
 use Rattle.replay_one.specs.Comparing.{called_at, wrong_of}
 use Rattle.replay_text.specs.declared.Listed.{Listed}
@@ -45,7 +48,7 @@ pub record PieceRead : Type 0 where
 
 -- 1 where a number was read and is another than is due
 unfoldable pub other_than : ℕ → Numbered → ℕ
-other_than due n = cond (eqb n.next.fault 0) (cond (eqb n.value due) 0 1) 0
+other_than due n = cond (is_some n.next.fault) 0 (cond (eqb n.value due) 0 1)
 
 unfoldable pub piece_at : List ℕ → ℕ → Cursor → PieceRead
 piece_at text due p =
@@ -79,9 +82,9 @@ pub record Gave (x : PieceRead) (r : Given) (sizes deltas words bytes : List ℕ
 unfoldable pub call_turn : List ℕ → Piece → List ℕ → Run → Run
 call_turn text x bytes s =
     let r = called_at text x bytes s.next in
-    cond (eqb s.next.fault 0)
-    (record { next = r.next; pieces = s.pieces; calls = more s.calls 1; wrong = more s.wrong (wrong_of r) })
+    cond (is_some s.next.fault)
     s
+    (record { next = r.next; pieces = s.pieces; calls = more s.calls 1; wrong = more s.wrong (wrong_of r) })
 
 -- the calls of a piece: behind their count, and as many as that says
 abbrev pub call_start : List ℕ → Run → Run
@@ -100,11 +103,11 @@ piece_start text s =
 unfoldable pub piece_turn : List ℕ → Run → Run
 piece_turn text s =
     let x = piece_at text s.pieces s.next in
-    cond (eqb s.next.fault 0) (calls_at text x.given x.bytes (piece_start text s)) s
+    cond (is_some s.next.fault) s (calls_at text x.given x.bytes (piece_start text s))
 
 -- a run's begin: nothing counted, behind the count of pieces
 abbrev pub piece_count : List ℕ → Numbered
-piece_count text = number_at true text (record { at = 0; fault = 0 })
+piece_count text = number_at true text (record { at = 0; fault = None })
 
 abbrev pub begin : List ℕ → Run
 begin text = record { next = (piece_count text).next; pieces = 0; calls = 0; wrong = 0 }
@@ -118,9 +121,15 @@ unfoldable pub one_more : Run → Run
 one_more s = record { next = s.next; pieces = s.pieces; calls = s.calls; wrong = more s.wrong 1 }
 
 -- at the end: one more for a fault, and for a number behind the last piece
+abbrev pub after_last : Option Fault → Run → Run
+after_last None s = one_more s
+after_last (Some Ends) s = s
+after_last (Some Word) s = one_more s
+after_last (Some Large) s = one_more s
+after_last (Some Long) s = one_more s
+
 unfoldable pub finished : List ℕ → Run → Run
-finished text s =
-    cond (eqb s.next.fault 0) (cond (eqb (number_at true text s.next).next.fault ends) s (one_more s)) (one_more s)
+finished text s = cond (is_some s.next.fault) (one_more s) (after_last (number_at true text s.next).next.fault s)
 
 -- the whole list
 unfoldable pub replay_of : List ℕ → Run

@@ -2,14 +2,14 @@
 // for each disagreement.
 #![tactic(auto)]
 
-ghost use Rattle.std.specs.Prelude.{◌≤◌, ◌≡◌, length, take};
+ghost use Rattle.std.specs.Prelude.{◌≤◌, ◌≡◌, None, length, take};
 ghost use Rattle.rules.specs.Piece.{piece};
 ghost use Rattle.replay_text.specs.Numbers.{list_at, most_narrow, most_byte};
 ghost use Rattle.replaying.specs.Running.{more, call_turn, calls_at, most_sizes, most_events, most_bytes, events_at, other_than, piece_at};
 ghost use Rattle.replaying.specs.Running.{Front, Gave, piece_turn, pieces_at, one_more, finished, replay_of};
 
 use replay_one::Compared;
-use replay_text::{Cursor, Listed, Numbered};
+use replay_text::{Cursor, Fault, Listed, Numbered};
 
 // The state of a run: the place in the text, and how many pieces, calls and disagreements there were.
 #[derive(Clone, Copy)]
@@ -33,10 +33,7 @@ fn more_of(n: u64, k: u64) -> u64
 
 // The number of the last piece that was read, or 0.
 fn last(s: Run) -> u64 {
-    if s.pieces == 0 {
-        return 0;
-    }
-    s.pieces - 1
+    s.pieces.saturating_sub(1)
 }
 
 // The lines of a call that disagrees.
@@ -64,7 +61,7 @@ fn turn(
     e: &mut [u32; 45056],
     work: &mut [u64; 45056],
 ) -> Run
-    requires { s.next.fault ≡ 0 }
+    requires { s.next.fault ≡ None }
     ensures { result ≡ call_turn text.now (piece sizes.now deltas.now words.now) bytes.now s }
 {
     let r = replay_one::one(
@@ -108,16 +105,13 @@ fn each_call(
         calls: from.calls,
         wrong: from.wrong,
     };
-    let mut i: u64 = 0;
-    while i < count {
-        let p = s.next;
-        if p.fault != 0 {
+    for i in 0..count {
+        if s.next.fault.is_some() {
             break;
         }
         s = turn(
             text, s, i, sizes, deltas, words, bytes, scratch, a, b, c, d, e, work,
         );
-        i += 1;
     }
     s
 }
@@ -138,7 +132,7 @@ fn events(text: &[u8], p: Cursor, zeros: usize, l: &mut [u32]) -> Listed
     requires { (length l.old ≡ most_events) × (zeros ≤ most_events) }
     ensures { Front (events_at text.now zeros p) result l.new }
 {
-    let n = replay_text::narrow_list(text, p, l);
+    let n = replay_text::list(text, p, l);
     if zeros == 0 {
         return n;
     }
@@ -152,7 +146,7 @@ fn read_sizes(text: &[u8], p: Cursor, l: &mut [u32]) -> Listed
     requires { length l.old ≡ most_sizes }
     ensures { Front (list_at most_narrow text.now most_sizes p) result l.new }
 {
-    replay_text::narrow_list(text, p, l)
+    replay_text::list(text, p, l)
 }
 
 // A file's bytes.
@@ -160,7 +154,7 @@ fn read_bytes(text: &[u8], p: Cursor, l: &mut [u8]) -> Listed
     requires { length l.old ≡ most_bytes }
     ensures { Front (list_at most_byte text.now most_bytes p) result l.new }
 {
-    replay_text::byte_list(text, p, l)
+    replay_text::list(text, p, l)
 }
 
 // 1 where a number was read and is another than is due, with a line.
@@ -168,8 +162,7 @@ fn misnumbered(n: Numbered, due: u64) -> u64
     ensures is { result ≡ other_than due n }
     ensures few { result ≤ 1 }
 {
-    let p = n.next;
-    if p.fault != 0 {
+    if n.next.fault.is_some() {
         return 0;
     }
     if n.value == due {
@@ -194,7 +187,7 @@ fn read_piece(
 {
     let number = replay_text::number(text, p, true);
     let other = misnumbered(number, due);
-    let zeros = replay_text::bounded(text, number.next, true, 500008, replay_text::LONG);
+    let zeros = replay_text::bounded(text, number.next, true, 500008, Fault::Long);
     let count = zeros.value as usize;
     let s = read_sizes(text, zeros.next, sizes);
     let d = events(text, s.next, count, deltas);
@@ -270,7 +263,7 @@ fn next_piece(
     e: &mut [u32; 45056],
     work: &mut [u64; 45056],
 ) -> Run
-    requires { s.next.fault ≡ 0 }
+    requires { s.next.fault ≡ None }
     ensures { result ≡ piece_turn text.now s }
 {
     let g = read_piece(text, s.next, s.pieces, sizes, deltas, words, bytes);
@@ -303,7 +296,7 @@ fn each_piece(
 ) -> Run
     ensures { result ≡ pieces_at text.now }
 {
-    let n = replay_text::number(text, Cursor { at: 0, fault: 0 }, true);
+    let n = replay_text::number(text, Cursor { at: 0, fault: None }, true);
     let count = n.value;
     let next = n.next;
     let mut s = Run {
@@ -312,16 +305,13 @@ fn each_piece(
         calls: 0,
         wrong: 0,
     };
-    let mut k: u64 = 0;
-    while k < count {
-        let p = s.next;
-        if p.fault != 0 {
+    for _ in 0..count {
+        if s.next.fault.is_some() {
             break;
         }
         s = next_piece(
             text, s, sizes, deltas, words, bytes, scratch, a, b, c, d, e, work,
         );
-        k += 1;
     }
     s
 }
@@ -340,17 +330,16 @@ fn one_more(s: Run) -> Run
 }
 
 // What stands at the end: one disagreement more, with a line, for a fault, and for a number behind the last piece.
+#[tactic(auto, unfolding(crate::specs::Running::finished))]
 fn finish(text: &[u8], s: Run) -> Run
     ensures { result ≡ finished text.now s }
 {
-    let p = s.next;
-    if p.fault != 0 {
-        replay_lines::fault(last(s), p.fault);
+    if let Some(why) = s.next.fault {
+        replay_lines::fault(last(s), why);
         return one_more(s);
     }
-    let n = replay_text::number(text, p, true);
-    let behind = n.next;
-    if behind.fault == replay_text::ENDS {
+    let n = replay_text::number(text, s.next, true);
+    if let Some(Fault::Ends) = n.next.fault {
         return s;
     }
     replay_lines::more(last(s));

@@ -16,14 +16,14 @@ check-second-requires c =
     let at_check = c.check-answer in
     omega (arith, c.requires.2, at_check.auto.scratch, c.check-first.auto.scratch)
 
-pub check_narrow-third-requires : goal.check_narrow-third-requires
-check_narrow-third-requires c =
+pub check-third-requires : goal.check-third-requires
+check-third-requires c =
     let at_check2 = c.check-first in
     let at_check = c.check-answer in
     omega (arith, c.requires.3, at_check.auto.scratch, at_check2.auto.scratch, c.check-second.auto.scratch)
 
-pub check_narrow-fourth-requires : goal.check_narrow-fourth-requires
-check_narrow-fourth-requires c =
+pub check-fourth-requires : goal.check-fourth-requires
+check-fourth-requires c =
     let at_check3 = c.check-second in
     let at_check2 = c.check-first in
     let at_check = c.check-answer in
@@ -33,12 +33,12 @@ check_narrow-fourth-requires c =
       at_check.auto.scratch,
       at_check2.auto.scratch,
       at_check3.auto.scratch,
-      c.check_narrow-third.auto.scratch,
+      c.check-third.auto.scratch,
     )
 
-pub check_narrow-fifth-requires : goal.check_narrow-fifth-requires
-check_narrow-fifth-requires c =
-    let at_check_narrow = c.check_narrow-third in
+pub check-fifth-requires : goal.check-fifth-requires
+check-fifth-requires c =
+    let at_check_narrow = c.check-third in
     let at_check3 = c.check-second in
     let at_check2 = c.check-first in
     let at_check = c.check-answer in
@@ -49,14 +49,14 @@ check_narrow-fifth-requires c =
       at_check2.auto.scratch,
       at_check3.auto.scratch,
       at_check_narrow.auto.scratch,
-      c.check_narrow-fourth.auto.scratch,
+      c.check-fourth.auto.scratch,
     )
 
 pub returns : goal.returns
 returns c =
-    let at_check_narrow3 = c.check_narrow-fifth in
-    let at_check_narrow2 = c.check_narrow-fourth in
-    let at_check_narrow = c.check_narrow-third in
+    let at_check_narrow3 = c.check-fifth in
+    let at_check_narrow2 = c.check-fourth in
+    let at_check_narrow = c.check-third in
     let at_check3 = c.check-second in
     let at_check2 = c.check-first in
     let at_check = c.check-answer in

@@ -1,15 +1,15 @@
 -- `replay_one::one` meets its contract: the call is read, and where it was, it is made and compared.
-use mathlib.Core.Path.{sym}
+use mathlib.Core.Path.{sym, ◌∙◌}
 use native.Mathlib.Nat.{le_trans}
 use lib.Dec.{lit≤}
 use lib.Seq.{length-take-le}
 use Rattle.replay_one.proofs.Laws.{called_unread, called_made}
 use Rattle.replay_one.proofs.one.Goals as goal
 
-pub returns-then-behind-ne0 : goal.returns-then-behind-ne0
-returns-then-behind-ne0 c =
+pub returns-then-is_some : goal.returns-then-is_some
+returns-then-is_some c =
     let at_next_call = c.next_call-q in
-    called_unread _ _ _ _ _ _ at_next_call.ensures.is c.if-behind-ne0.true c.unread.ensures
+    called_unread _ _ _ _ _ _ at_next_call.ensures.is (sym c.is_some.ensures ∙ c.if-is_some.true) c.unread.ensures
 
 pub slice_bounds-ask-end : goal.slice_bounds-ask-end
 slice_bounds-ask-end c =
@@ -94,6 +94,5 @@ ask-requires c =
 pub returns : goal.returns
 returns c =
     let at_ask = c.ask in
-    let at_if1 = c.if-behind-ne0 in
     let at_next_call = c.next_call-q in
-    called_made _ _ _ _ _ _ at_next_call.ensures.is at_if1.false at_ask.ensures
+    called_made _ _ _ _ _ _ at_next_call.ensures.is (sym c.is_some.ensures ∙ c.if-is_some.false) at_ask.ensures

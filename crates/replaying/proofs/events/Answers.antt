@@ -4,12 +4,12 @@ use Rattle.replaying.proofs.events.Goals as goal
 
 pub returns-then-zeros-eq0 : goal.returns-then-zeros-eq0
 returns-then-zeros-eq0 c =
-    events_read _ _ _ c.args.l.now _ _ c.requires.0 c.narrow_list-n.auto.out
-    c.narrow_list-n.ensures c.if-zeros-eq0.true
+    events_read _ _ _ c.args.l.now _ _ c.requires.0 c.list-n.auto.out
+    c.list-n.ensures c.if-zeros-eq0.true
 
 pub returns : goal.returns
 returns c =
     let at_if1 = c.if-zeros-eq0 in
-    let at_narrow_list = c.narrow_list-n in
-    events_zeros _ _ _ c.args.l.now at_narrow_list.new.out _ c.requires.0
-    at_narrow_list.auto.out at_narrow_list.ensures _ at_if1.false c.requires.1 c.clear_front.auto.l c.clear_front.ensures
+    let at_list = c.list-n in
+    events_zeros _ _ _ c.args.l.now at_list.new.out _ c.requires.0
+    at_list.auto.out at_list.ensures _ at_if1.false c.requires.1 c.clear_front.auto.l c.clear_front.ensures

@@ -4,4 +4,4 @@ use Rattle.replaying.proofs.read_bytes.Goals as goal
 
 pub returns : goal.returns
 returns c =
-    rw c.requires at (front_read _ c.args.l.now _ _ c.byte_list.auto.out c.byte_list.ensures)
+    rw c.requires at (front_read _ c.args.l.now _ _ c.list.auto.out c.list.ensures)
