@@ -28,6 +28,7 @@ pub fn call(
         ≡ outcome code part (piece sizes.now deltas.now words.now) bytes.now
         (left said.old a.old b.old c.old d.old e.old work.old) }
 {
+    // Kept: calls go by the replayed text's numbers, and each other number up to 99 has a meaning too: it is no call's.
     match code {
         1 => answers::head(sizes, deltas, words, said),
         2 => answers::part_count(sizes, deltas, words, said),

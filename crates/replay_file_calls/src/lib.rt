@@ -34,6 +34,7 @@ pub fn call(
     ensures { left said.new sizes.new deltas.new words.new
         ≡ outcome code bytes.now (left said.old sizes.old deltas.old words.old) }
 {
+    // Kept: numbers, as in replay_calls.
     match code {
         9 => say_piece(files::read_size(bytes), said),
         10 => say_piece(files::read(bytes, sizes, deltas, words), said),
