@@ -103,7 +103,7 @@ module _ (bs : List ℕ) {ss₀ ds₀ ws₀ ss ds ws : List ℕ} {answer : Resul
     (hs : 65537 ≤ length ss₀) (hd : 500000 ≤ length ds₀) (hw : 500000 ≤ length ws₀)
     (run : ReadCalled as_it_is (read_call bs (length ss₀) (length ds₀) (length ws₀)) ss₀ ds₀ ws₀ answer ss ds ws) where
   pub bytes_refused : (r : Room) (st mk : List ℕ) (f : basics.Refusal) → refused (number f) ≡ answer
-      → Opens (file_page any_file (room_for r) bs) r ss ds ws st mk (no_piece f)
+      → Opens (file_page any_file (room_for r) bs) r ss ds ws st mk (no_piece (number f))
   bytes_refused r st mk f h =
       let (e, l) = read_refused bs (length ss₀) (length ds₀) (length ws₀) hs hd hw (number f) (h ∙ run.answered) in
       no_piece_opens r ss ds ws st mk _ f (number_page (file_piece bs) _ f (number_first (file_refusals bs) _ (number f) e l))
@@ -161,14 +161,14 @@ module _ (bs : List ℕ) {ss₀ ds₀ ws₀ ss ds ws : List ℕ} {answer : Resul
 -- ---- what of it was read
 
 module _ (bs file : List ℕ) (read most : ℕ) (r : Room) (ss ds ws st mk : List ℕ) (h : FileRead bs file read most) where
-  pub too_large : most_bytes < read → Opens (file_page (bytes_for most) (room_for r) bs) r ss ds ws st mk (no_piece TooManyBytes)
+  pub too_large : most_bytes < read → Opens (file_page (bytes_for most) (room_for r) bs) r ss ds ws st mk (no_piece (number TooManyBytes))
   unfolding first_number
   too_large l =
       no_piece_opens r ss ds ws st mk _ TooManyBytes
       (number_page (file_piece bs) _ TooManyBytes (rw (lt-ltb most_bytes (length bs) (omega (arith, h.within)))))
 
   module _ (few : read ≤ most_bytes) where
-    pub not_held : most < read → Opens (file_page (bytes_for most) (room_for r) bs) r ss ds ws st mk (no_piece NoRoom)
+    pub not_held : most < read → Opens (file_page (bytes_for most) (room_for r) bs) r ss ds ws st mk (no_piece (number NoRoom))
     unfolding first_number
     not_held l =
         let e = h.counted few in

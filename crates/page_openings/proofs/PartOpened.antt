@@ -24,7 +24,7 @@ use Rattle.staffs.proofs.PartSizes.{engraves_part}
 use Rattle.pages.specs.Page.{Line, part_lines, parts_lines, Room, many_items, room_for}
 use Rattle.pages.specs.Spots.{Sheet, sheet, begun, ahead, Fits}
 use Rattle.pages.specs.Claims.{part_sheet, PartAhead}
-use Rattle.page_openings.specs.Places.{lines_at, lines_unless, Ready, Rooms, PartOpened}
+use Rattle.page_openings.specs.Places.{lines_at, Ready, Rooms, PartOpened}
 use Rattle.page_openings.specs.declared.Place.{Place}
 use Rattle.page_room.proofs.Numbers.{part_passes}
 
@@ -47,7 +47,7 @@ parts_here x k n l =
 
 module _ (ahead_is : PartAhead) (x : Piece) (t : Place) {c₀ h₀ k₀ l₀ w₀ c₁ h₁ k₁ l₁ w₁ ss ms : List ℕ} {answer : Result StaffSize}
     (ready : Ready x (record { items = length h₀; work = length w₀ }) (sheet c₀ h₀ k₀ ss ms) t) (rooms : Rooms (sheet c₀ h₀ k₀ ss ms))
-    (leftovers : 40000 ≤ length l₀) (none : t.refusal ≡ None) (closed : t.spot ≡ None) (left : t.next < t.parts)
+    (leftovers : 40000 ≤ length l₀) (none : t.number ≡ 0) (closed : t.spot ≡ None) (left : t.next < t.parts)
     (run : EngraveCalled as_it_is (part_size x t.next) (engrave_call x t.next (length c₀) (length h₀) (length k₀) (length l₀) (length w₀))
     c₀ h₀ k₀ l₀ w₀ answer c₁ h₁ k₁ l₁ w₁) where
   abbrev k : ℕ
@@ -106,13 +106,17 @@ module _ (ahead_is : PartAhead) (x : Piece) (t : Place) {c₀ h₀ k₀ l₀ w�
   closed_lines : parts_lines x k (t.parts - k) ≡ lines_at x (sheet c₀ h₀ k₀ ss ms) t
   closed_lines = rw (none, closed)
 
+  begun_lines : (u : Spot) → lines_at x (sheet c₁ h₁ k₁ ss ms) (record { number = t.number; parts = t.parts; next = k + 1; spot = Some u })
+      ≡ ahead (sheet c₁ h₁ k₁ ss ms) u ++ parts_lines x (k + 1) (t.parts - (k + 1))
+  begun_lines u = rw none
+
   pub part_opened : (small : ticks_per_quarter x ≤ 65535) (s : StaffSize) → given s ≡ answer
       → PartOpened x (record { items = length h₀; work = length w₀ }) (sheet c₀ h₀ k₀ ss ms) t (sheet c₁ h₁ k₁ ss ms)
-      (record { refusal = t.refusal; parts = t.parts; next = t.next + 1; spot = Some (begun t.next (ticks_per_quarter x) s.bars) })
+      (record { number = t.number; parts = t.parts; next = t.next + 1; spot = Some (begun t.next (ticks_per_quarter x) s.bars) })
   part_opened small s h =
       record {
         lines =
-            ap (λ o. lines_unless o (ahead (sheet c₁ h₁ k₁ ss ms) (begun k (ticks_per_quarter x) s.bars) ++ parts_lines x (k + 1) (t.parts - (k + 1)))) none
+            begun_lines (begun k (ticks_per_quarter x) s.bars)
             ∙ ap (λ ls. ls ++ parts_lines x (k + 1) (t.parts - (k + 1))) (ahead_here s h) ∙ sym (parts_here x k t.parts left) ∙ closed_lines;
         ready =
             record {

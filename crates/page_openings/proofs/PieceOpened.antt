@@ -4,6 +4,7 @@ use mathlib.Core.List.{List, [], ◌∷◌, ◌++◌, map, append-nil}
 use mathlib.Core.Path.{◌≡◌, refl, sym, ap, ◌∙◌}
 use native.Mathlib.Nat.{sub-zero}
 use native.Mathlib.Omega.{arith}
+use borrow.Author.Tests.{ne_eqb}
 use lib.ListN.{length, drop}
 use lib.Seq.{drop-append_seam}
 use Rattle.rules.specs.Lists.{written}
@@ -11,11 +12,10 @@ use Rattle.rules.specs.Piece.{Piece, Event}
 use Rattle.rules.specs.RawNotes.{parts}
 use Rattle.rules.specs.Bars.{bars, starts, marks}
 use Rattle.rules.specs.Refusals.{Result, refused, given, Refusal, first_number, note_refusals, as_it_is}
-use Rattle.std.specs.Prelude.{Option, Some}
 use Rattle.std.proofs.lemmas.Option.{none-some}
 use Rattle.basics.specs.declared.Refusal as basics
 use Rattle.basics.specs.Refusals.{number}
-use Rattle.admission.proofs.Refused.{positive}
+use Rattle.admission.proofs.Refused.{positive, not_zero}
 use Rattle.rules.specs.Calls.{part_count_call, bars_call, BarsCalled}
 use Rattle.laws.specs.Admitted.{Passes}
 use Rattle.laws.proofs.BarLaws.{bars_stop}
@@ -31,9 +31,9 @@ use Rattle.page_openings.specs.Places.{lines_at, turned_back, to_open, Ready, Pi
 
 -- no refusal is number 0, so the place of one has its line ahead
 pub refused_lines : (x : Piece) (s : Sheet) (rs : List Refusal) (f : basics.Refusal) → first_number rs ≡ number f
-    → lines_at x s (turned_back (Some f)) ≡ page_of rs x
+    → lines_at x s (turned_back (number f)) ≡ page_of rs x
 unfolding page_of
-refused_lines x s rs f e = rw (← append-nil rs, number_refused rs [] _ (number f) e (positive f))
+refused_lines x s rs f e = rw (ne_eqb (number f) 0 (not_zero f), ← append-nil rs, number_refused rs [] _ (number f) e (positive f))
 
 -- all parts are ahead where none applies
 pub opened_lines : (x : Piece) (s : Sheet) (rs : List Refusal) (n : ℕ) → Passes rs → n ≡ length (parts x) → lines_at x s (to_open n) ≡ page_of rs x
@@ -41,8 +41,8 @@ unfolding page_of
 opened_lines x s rs n p e = rw (passes_given rs (parts_lines x 0 (length (parts x))) p, e, sub-zero)
 
 -- a place that has nothing to open needs nothing
-pub refused_ready : (x : Piece) (r : Room) (s : Sheet) (o : Option basics.Refusal) → Ready x r s (turned_back o)
-refused_ready x r s o =
+pub refused_ready : (x : Piece) (r : Room) (s : Sheet) (n : ℕ) → Ready x r s (turned_back n)
+refused_ready x r s n =
     record {
       passes = λ l. absurd (omega (arith, l));
       parts = λ l. absurd (omega (arith, l));
@@ -55,20 +55,20 @@ refused_ready x r s o =
 
 module _ (x : Piece) (r : Room) (ss ms : List ℕ) where
   -- turned back by 1 to 6
-  pub piece_refused : (f : basics.Refusal) → refused (number f) ≡ part_count_call x → PieceOpened x r ss ms (turned_back (Some f))
+  pub piece_refused : (f : basics.Refusal) → refused (number f) ≡ part_count_call x → PieceOpened x r ss ms (turned_back (number f))
   piece_refused f h =
       let (e, l) = refused_first (length (parts x)) (note_refusals x) (number f) (note_numbers x) h in
       record {
         page = λ s. refused_lines x s (note_refusals x ++ room_for r x) f (number_first (note_refusals x) (room_for r x) (number f) e l);
-        ready = λ s _ _. refused_ready x r s (Some f);
+        ready = λ s _ _. refused_ready x r s (number f);
       }
 
   -- or let pass by them, and turned back by 8
-  pub room_refused : (f : basics.Refusal) → Passes (note_refusals x) → number f ≡ first_number (room_for r x) → PieceOpened x r ss ms (turned_back (Some f))
+  pub room_refused : (f : basics.Refusal) → Passes (note_refusals x) → number f ≡ first_number (room_for r x) → PieceOpened x r ss ms (turned_back (number f))
   room_refused f p e =
       record {
         page = λ s. refused_lines x s (note_refusals x ++ room_for r x) f (number_after (note_refusals x) (room_for r x) p ∙ sym e);
-        ready = λ s _ _. refused_ready x r s (Some f);
+        ready = λ s _ _. refused_ready x r s (number f);
       }
 
 pub count_given : (x : Piece) (n : ℕ) → given n ≡ part_count_call x → Passes (note_refusals x) × (n ≡ length (parts x))

@@ -5,11 +5,12 @@ use mathlib.Core.List.{List, [], ◌++◌, flatten}
 use mathlib.Core.Logic.{inl, inr}
 use mathlib.Core.Path.{◌≡◌, sym, ap, ◌∙◌}
 use native.Mathlib.Omega.{arith}
-use borrow.Author.Tests.{ltb-false}
+use borrow.Author.Tests.{eq-eqb, ne_eqb, ltb-false}
 use Rattle.std.specs.Prelude.{None}
 use lib.ListN.{take}
 use Rattle.rules.specs.Piece.{Piece}
 use Rattle.laws.proofs.Lists.{flatten_append}
+use Rattle.laws.proofs.Order.{by_eq}
 use Rattle.pages.specs.Page.{parts_lines, Room}
 use Rattle.pages.specs.Spots.{Sheet}
 use Rattle.page_openings.specs.Places.{lines_at, goes_on, held_piece}
@@ -18,7 +19,7 @@ use Rattle.page_openings.specs.declared.Place.{Place}
 use Rattle.page_openings.proofs.Turns.{by_option}
 
 -- no line is ahead where none goes on
-no_parts : (x : Piece) (s : Sheet) (t : Place) → t.refusal ≡ None → t.spot ≡ None → t.parts ≤ t.next → lines_at x s t ≡ []
+no_parts : (x : Piece) (s : Sheet) (t : Place) → t.number ≡ 0 → t.spot ≡ None → t.parts ≤ t.next → lines_at x s t ≡ []
 unfolding parts_lines
 no_parts x s t n o l =
     let z : t.parts - t.next ≡ 0 = omega arith in
@@ -26,12 +27,12 @@ no_parts x s t n o l =
 
 ended_lines : (x : Piece) (s : Sheet) (t : Place) → goes_on t ≡ false → lines_at x s t ≡ []
 ended_lines x s t g =
-    elim (by_option t.refusal) [
-      | inr f ↦ absurd (true≢false (rw f.1 at g))
+    elim (by_eq t.number 0) [
+      | inr n ↦ absurd (true≢false (rw (ne_eqb t.number 0 n) at g))
       | inl n ↦
           elim (by_option t.spot) [
-            | inr o ↦ absurd (true≢false (rw (n, o.1) at g))
-            | inl o ↦ no_parts x s t n o (ltb-false t.next t.parts (rw (n, o) at g))
+            | inr o ↦ absurd (true≢false (rw (eq-eqb t.number 0 n, o.1) at g))
+            | inl o ↦ no_parts x s t n o (ltb-false t.next t.parts (rw (eq-eqb t.number 0 n, o) at g))
           ]
     ]
 

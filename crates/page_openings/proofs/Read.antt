@@ -4,11 +4,12 @@ use mathlib.Core.List.{List, [], ◌∷◌, ◌++◌}
 use mathlib.Core.Option.{Option, none, some}
 use mathlib.Core.Path.{◌≡◌, refl, sym, ap, ◌∙◌}
 use native.Mathlib.Omega.{arith}
+use borrow.Author.Tests.{ne_eqb}
 use Rattle.std.specs.Prelude.{Some, None}
 use Rattle.basics.specs.declared.Refusal as basics
 use Rattle.basics.specs.declared.Refusal.TheVariants.{SizesDisagree}
 use Rattle.basics.specs.Refusals.{number}
-use Rattle.admission.proofs.Refused.{positive}
+use Rattle.admission.proofs.Refused.{positive, not_zero}
 use lib.ListN.{take}
 use Rattle.rules.specs.Piece.{Piece, piece}
 use Rattle.rules.specs.Refusals.{Refusal, first_number, piece_refusals, note_refusals}
@@ -24,10 +25,10 @@ use Rattle.page_openings.proofs.PieceOpened.{refused_lines, refused_ready}
 
 -- the page of the first refusal that applies is its line
 pub number_page : (x : Piece) (rs : List Refusal) (f : basics.Refusal) → first_number rs ≡ number f → page_of rs x ≡ refused_line (number f) ∷ []
-number_page x rs f e = sym (refused_lines x (sheet [] [] [] [] []) rs f e)
+number_page x rs f e = sym (refused_lines x (sheet [] [] [] [] []) rs f e) ∙ rw (ne_eqb (number f) 0 (not_zero f))
 
-pub no_piece_within : (ss ds ws : List ℕ) (f : basics.Refusal) → Within ss ds ws (no_piece f)
-no_piece_within ss ds ws f = record { sizes = omega arith; deltas = omega arith; words = omega arith }
+pub no_piece_within : (ss ds ws : List ℕ) (n : ℕ) → Within ss ds ws (no_piece n)
+no_piece_within ss ds ws n = record { sizes = omega arith; deltas = omega arith; words = omega arith }
 
 -- a front that fits is within the arrays
 pub front_within : (c : Counts) (r : Room) (ss ds ws st mk : List ℕ) (o : Opened) → Fit c ss ds ws → FrontOpened c r ss ds ws st mk o → Within ss ds ws o
@@ -35,14 +36,15 @@ front_within c r ss ds ws st mk o f h =
     record { sizes = rw h.sizes f.sizes; deltas = rw h.deltas f.deltas; words = rw h.words f.words }
 
 module _ (r : Room) (ss ds ws st mk : List ℕ) where
-  pub no_piece_opens : (page : List Line) (f : basics.Refusal) → page ≡ refused_line (number f) ∷ [] → Opens page r ss ds ws st mk (no_piece f)
-  no_piece_opens page f e = record { ahead_of = λ s. sym e; ready = λ s _ _. refused_ready _ r s (Some f) }
+  pub no_piece_opens : (page : List Line) (f : basics.Refusal) → page ≡ refused_line (number f) ∷ [] → Opens page r ss ds ws st mk (no_piece (number f))
+  no_piece_opens page f e =
+      record { ahead_of = λ s. rw (ne_eqb (number f) 0 (not_zero f)) (sym e); ready = λ s _ _. refused_ready _ r s (number f) }
 
   -- ---- texts
 
   -- a piece that the arrays do not hold whole has a number of its own
   pub due_opens : (x : Piece) (f : basics.Refusal) → number f ≡ first_number (piece_refusals x)
-      → Opens (page_of (note_refusals x ++ room_for r x) x) r ss ds ws st mk (no_piece f)
+      → Opens (page_of (note_refusals x ++ room_for r x) x) r ss ds ws st mk (no_piece (number f))
   due_opens x f e =
       let l = positive f in
       let n = number f in
@@ -60,7 +62,7 @@ module _ (r : Room) (ss ds ws st mk : List ℕ) where
         ready = h.opened.ready;
       }
 
-  pub bad_opens : (o : Option Piece) → Answers o None ss ds ws → Opens (read_page (room_for r) o) r ss ds ws st mk (no_piece SizesDisagree)
+  pub bad_opens : (o : Option Piece) → Answers o None ss ds ws → Opens (read_page (room_for r) o) r ss ds ws st mk (no_piece (number SizesDisagree))
   unfolding Answers
   bad_opens none h = no_piece_opens _ SizesDisagree refl
   bad_opens (some x) h = absurd h

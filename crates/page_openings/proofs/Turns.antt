@@ -7,14 +7,13 @@ use mathlib.Core.Path.{◌≡◌, refl, sym, ap, subst, ◌∙◌}
 use Rattle.std.specs.Prelude.{Option, None, Some}
 use Rattle.std.specs.Option.{is_some}
 use Rattle.std.proofs.lemmas.Option.{none-some, same_Some}
-use Rattle.basics.specs.declared.Refusal.{Refusal}
-use Rattle.basics.specs.Refusals.{number}
 use native.Mathlib.Omega.{arith}
-use borrow.Author.Tests.{le-ltb}
+use borrow.Author.Tests.{eq-eqb, ne_eqb, le-ltb}
 use lib.ListN.{length, length-append}
 use Rattle.rules.specs.Lists.{flag}
 use Rattle.rules.specs.Piece.{Piece}
 use Rattle.bar_lines.specs.Lines.{refused_line}
+use Rattle.laws.proofs.Order.{by_eq}
 use Rattle.line_text.specs.Text.{Adds}
 use Rattle.pages.specs.Page.{Line, parts_lines, Room}
 use Rattle.pages.specs.Spots.{Sheet, ahead, ahead_on, PutsLines}
@@ -42,13 +41,13 @@ module _ {A : Type 0} where
 
 module _ (x : Piece) (r : Room) where
   -- a place stays as it is: a refusal's line is ahead, a part is open already, or none is left
-  pub stays_refused : (s : Sheet) (t : Place) → Ready x r s t → is_some t.refusal ≡ true → PartOpened x r s t s t
+  pub stays_refused : (s : Sheet) (t : Place) → Ready x r s t → (t.number ≡ 0 → ⊥) → PartOpened x r s t s t
   stays_refused s t ready n =
       record {
         lines = refl;
         ready = ready;
         number = refl;
-        opened = λ _ z. absurd (one_there t.refusal n z);
+        opened = λ _ z. absurd (n z);
         titled = λ c v o _. none-some v (sym c ∙ o);
       }
 
@@ -72,8 +71,8 @@ module _ (x : Piece) (r : Room) where
         titled = λ c v e _. none-some v (sym c ∙ e);
       }
     where
-      ended_place : t.refusal ≡ None → goes_on t ≡ false
-      ended_place n = rw (n, o, le-ltb t.next t.parts l)
+      ended_place : t.number ≡ 0 → goes_on t ≡ false
+      ended_place n = rw (eq-eqb t.number 0 n, o, le-ltb t.next t.parts l)
 
 -- ---- lines put
 
@@ -83,30 +82,30 @@ some_line l ls e =
     omega arith
 
 -- a refusal's line, and the end behind it
-module _ (s : Sheet) (t : Place) (out₀ out : List ℕ) (a : Turn) (f : Refusal) (n : t.refusal ≡ Some f) (room : 4096 ≤ length out)
-    (adds : Adds 4096 (refused_line (number f)) 0 out₀ a.at out) (e : a.place ≡ turned_back None) where
+module _ (s : Sheet) (t : Place) (out₀ out : List ℕ) (a : Turn) (n : t.number ≡ 0 → ⊥) (room : 4096 ≤ length out)
+    (adds : Adds 4096 (refused_line t.number) 0 out₀ a.at out) (e : a.place ≡ turned_back 0) where
   nothing_left : (x : Piece) → lines_at x s a.place ≡ []
   unfolding parts_lines
   nothing_left x = rw e
 
-  refused_ahead : (x : Piece) → lines_at x s t ≡ refused_line (number f) ∷ []
-  refused_ahead x = rw n
+  refused_ahead : (x : Piece) → lines_at x s t ≡ refused_line t.number ∷ []
+  refused_ahead x = rw (ne_eqb t.number 0 n)
 
   pub put_refusal : LinesPut s t out a
   unfolding flatten
   put_refusal =
       record {
-        lines = refused_line (number f) ∷ [];
-        ahead_of = λ x. refused_ahead x ∙ ap (λ ls. refused_line (number f) ∷ ls) (sym (nothing_left x));
-        page = adds.text ∙ sym (append-nil (refused_line (number f)));
+        lines = refused_line t.number ∷ [];
+        ahead_of = λ x. refused_ahead x ∙ ap (λ ls. refused_line t.number ∷ ls) (sym (nothing_left x));
+        page = adds.text ∙ sym (append-nil (refused_line t.number));
         within = omega (arith, adds.grown);
-        ready = λ x r _. rw e (refused_ready x r s None);
+        ready = λ x r _. rw e (refused_ready x r s 0);
         refusal = λ _. (λ z. some_line _ _ z, rw e);
-        stops = λ z _ _ _. absurd (none-some f (sym z ∙ n));
+        stops = λ z _ _ _. absurd (n z);
       }
 
 -- no part is open, and no line is put
-pub put_none : (s : Sheet) (t : Place) (out : List ℕ) → t.refusal ≡ None → t.spot ≡ None → LinesPut s t out (record { at = 0; place = t })
+pub put_none : (s : Sheet) (t : Place) (out : List ℕ) → t.number ≡ 0 → t.spot ≡ None → LinesPut s t out (record { at = 0; place = t })
 unfolding flatten
 put_none s t out n o =
     record {
@@ -120,7 +119,7 @@ put_none s t out n o =
     }
 
 -- the lines of the part that is open
-module _ (s : Sheet) (t : Place) (out : List ℕ) (p : Lines) (here : Spot) (n : t.refusal ≡ None) (o : t.spot ≡ Some here) (puts : PutsLines s here p out) where
+module _ (s : Sheet) (t : Place) (out : List ℕ) (p : Lines) (here : Spot) (n : t.number ≡ 0) (o : t.spot ≡ Some here) (puts : PutsLines s here p out) where
   put_ahead : (x : Piece) → lines_at x s t ≡ puts.lines ++ lines_at x s (behind_put t p).place
   put_ahead x =
       let rest : List Line = parts_lines x t.next (t.parts - t.next) in
@@ -163,7 +162,7 @@ module _ (x : Piece) (r : Room) (s₀ s₁ : Sheet) (t₀ t₁ : Place) (out : L
   flag_most true = omega arith
   flag_most false = omega arith
 
-  turn_part : t₀.refusal ≡ None → put.lines ≡ [] → weight x s₁ a.place < weight x s₀ t₀
+  turn_part : t₀.number ≡ 0 → put.lines ≡ [] → weight x s₁ a.place < weight x s₀ t₀
   turn_part n z =
       elim (by_option t₁.spot) [
         | inl e ↦ absurd (one_there t₁.spot (opened.opened goes n) e)
@@ -180,8 +179,8 @@ module _ (x : Piece) (r : Room) (s₀ s₁ : Sheet) (t₀ t₁ : Place) (out : L
       elim (by_length put.lines) [
         | inr l ↦ omega (arith, l, count, flag_most (is_some a.place.spot))
         | inl z ↦
-            elim (by_option t₀.refusal) [
+            elim (by_eq t₀.number 0) [
               | inl n ↦ turn_part n z
-              | inr n ↦ absurd ((put.refusal (λ e. none-some n.0 (sym (sym opened.number ∙ e) ∙ n.1))).0 z)
+              | inr n ↦ absurd ((put.refusal (λ e. n (sym opened.number ∙ e))).0 z)
             ]
       ]

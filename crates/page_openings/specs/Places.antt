@@ -1,8 +1,6 @@
 -- A place of a page: the lines ahead of it, and what the arrays hold there.
-use Rattle.std.specs.Prelude.{ℕ, ◌+◌, ◌-◌, ◌*◌, ◌<◌, ◌≤◌, Bool, true, ◌||◌, ◌≡◌, ltb, length, take, Option, None, Some}
+use Rattle.std.specs.Prelude.{ℕ, ◌+◌, ◌-◌, ◌*◌, ◌<◌, ◌≤◌, Bool, true, cond, not, ◌||◌, ◌≡◌, eqb, ltb, length, take, Option, None, Some}
 use Rattle.std.specs.Option.{is_some}
-use Rattle.basics.specs.declared.Refusal.{Refusal}
-use Rattle.basics.specs.Refusals.{number}
 use mathlib.Core.List.{List, [], ◌∷◌, ◌++◌, flatten}
 use Rattle.rules.specs.Lists.{flag, written}
 use Rattle.rules.specs.Piece.{Piece, piece}
@@ -23,25 +21,23 @@ use Rattle.page_openings.specs.declared.Place.{Place}
 use Rattle.page_openings.specs.declared.Turn.{Turn}
 use Rattle.page_openings.specs.declared.Opened.{Opened}
 
--- a refusal's line alone, or these lines
-abbrev pub lines_unless : Option Refusal → List Line → List Line
-lines_unless None ls = ls
-lines_unless (Some r) ls = refused_line (number r) ∷ []
-
 -- The lines ahead: a refusal's alone, or those of the part that is open, and then the parts from the next on.
 abbrev pub lines_at : Piece → Sheet → Place → List Line
-lines_at x s t = lines_unless t.refusal (ahead_on s t.spot ++ parts_lines x t.next (t.parts - t.next))
+lines_at x s t =
+    cond (eqb t.number 0)
+    (ahead_on s t.spot ++ parts_lines x t.next (t.parts - t.next))
+    (refused_line t.number ∷ [])
 
 -- a line may be ahead
 abbrev pub goes_on : Place → Bool
-goes_on t = is_some t.refusal || (is_some t.spot || ltb t.next t.parts)
+goes_on t = not (eqb t.number 0) || (is_some t.spot || ltb t.next t.parts)
 
 -- no part is open: a refusal, so many parts to open, the end
-abbrev pub turned_back : Option Refusal → Place
-turned_back r = record { refusal = r; parts = 0; next = 0; spot = None }
+abbrev pub turned_back : ℕ → Place
+turned_back n = record { number = n; parts = 0; next = 0; spot = None }
 
 abbrev pub to_open : ℕ → Place
-to_open n = record { refusal = None; parts = n; next = 0; spot = None }
+to_open n = record { number = 0; parts = n; next = 0; spot = None }
 
 -- what a place needs of a piece and the arrays: parts that are left to open have room, and the part that is open is held
 pub record Ready (x : Piece) (r : Room) (s : Sheet) (t : Place) : Type 0 where
@@ -67,13 +63,13 @@ pub record PieceOpened (x : Piece) (r : Room) (ss ms : List ℕ) (t : Place) : T
 pub record PartOpened (x : Piece) (r : Room) (s₀ : Sheet) (t₀ : Place) (s₁ : Sheet) (t₁ : Place) : Type 0 where
   pub lines : lines_at x s₁ t₁ ≡ lines_at x s₀ t₀
   pub ready : Ready x r s₁ t₁
-  pub number : t₁.refusal ≡ t₀.refusal
-  pub opened : goes_on t₀ ≡ true → t₀.refusal ≡ None → is_some t₁.spot ≡ true
+  pub number : t₁.number ≡ t₀.number
+  pub opened : goes_on t₀ ≡ true → t₀.number ≡ 0 → is_some t₁.spot ≡ true
   pub titled : t₀.spot ≡ None → (here : Spot) → t₁.spot ≡ Some here → ahead s₁ here ≡ [] → ⊥
 
 -- behind lines of the part that is open
 abbrev pub behind_put : Place → Lines → Turn
-behind_put t p = record { at = p.at; place = record { refusal = None; parts = t.parts; next = t.next; spot = p.rest } }
+behind_put t p = record { at = p.at; place = record { number = 0; parts = t.parts; next = t.next; spot = p.rest } }
 
 -- Lines ahead were put at the front of a page, and the others are ahead of the place behind them. A refusal's line is always put; where a part is
 -- open and none is put, it has ended.
@@ -83,8 +79,8 @@ pub record LinesPut (s : Sheet) (t : Place) (out₁ : List ℕ) (a : Turn) : Typ
   pub page : take a.at out₁ ≡ flatten lines
   pub within : a.at ≤ length out₁
   pub ready : (x : Piece) (r : Room) → Ready x r s t → Ready x r s a.place
-  pub refusal : (t.refusal ≡ None → ⊥) → (lines ≡ [] → ⊥) × (a.place.spot ≡ None)
-  pub stops : t.refusal ≡ None → (here : Spot) → t.spot ≡ Some here → lines ≡ [] → (ahead s here ≡ []) × (a.place.spot ≡ None)
+  pub refusal : (t.number ≡ 0 → ⊥) → (lines ≡ [] → ⊥) × (a.place.spot ≡ None)
+  pub stops : t.number ≡ 0 → (here : Spot) → t.spot ≡ Some here → lines ≡ [] → (ahead s here ≡ []) × (a.place.spot ≡ None)
 
 -- how far a place is from the end
 abbrev pub weight : Piece → Sheet → Place → ℕ
@@ -107,8 +103,8 @@ pub record Within (ss ds ws : List ℕ) (o : Opened) : Type 0 where
   pub words : o.words ≤ length ws
 
 -- a refusal, with no piece
-abbrev pub no_piece : Refusal → Opened
-no_piece r = record { place = turned_back (Some r); sizes = 0; deltas = 0; words = 0 }
+abbrev pub no_piece : ℕ → Opened
+no_piece n = record { place = turned_back n; sizes = 0; deltas = 0; words = 0 }
 
 -- the piece at the front of the arrays was opened
 pub record FrontOpened (c : Counts) (r : Room) (ss ds ws starts₁ marks₁ : List ℕ) (o : Opened) : Type 0 where

@@ -2,6 +2,7 @@
 #![tactic(auto)]
 
 ghost use Rattle.std.specs.Prelude.{◌<◌, ◌≤◌, ◌≡◌, length, None, Some};
+ghost use Rattle.basics.specs.Refusals.{number as Refusal·number};
 ghost use Rattle.rules.specs.Piece.{piece};
 ghost use Rattle.rules.specs.RawNotes.{parts as RawNotes·parts};
 ghost use Rattle.rules.specs.Refusals.{note_refusals};
@@ -17,10 +18,12 @@ use basics::{MOST_BYTES, Refusal};
 use pages::{Lines, Spot};
 use piece_text::Counts;
 
-// Where a page stands: the refusal whose line is ahead, how many parts there are and which is opened next, and the spot in the part that is open, where one is.
+// Where a page stands: the number of the refusal whose line is ahead, or 0; how many parts there are and which is opened next; and the spot in the
+// part that is open, where one is.
 #[derive(Clone, Copy, Debug, PartialEq, Eq)]
 pub struct Place {
-    pub refusal: Option<Refusal>,
+    // Kept: put_lines and open_next take any number, not only those of a refusal.
+    pub number: u32,
     pub parts: u32,
     pub next: u32,
     pub spot: Option<Spot>,
@@ -33,12 +36,12 @@ pub struct Turn {
     pub place: Place,
 }
 
-// A refusal's line and nothing else, and where there is none nothing at all.
-pub fn refused(refusal: Option<Refusal>) -> Place
-    ensures { result ≡ turned_back refusal }
+// A refusal's line and nothing else, and where its number is 0 nothing at all.
+pub fn refused(number: u32) -> Place
+    ensures { result ≡ turned_back number }
 {
     Place {
-        refusal,
+        number,
         parts: 0,
         next: 0,
         spot: None,
@@ -50,7 +53,7 @@ fn all_parts(parts: u32) -> Place
     ensures { result ≡ to_open parts }
 {
     Place {
-        refusal: None,
+        number: 0,
         parts,
         next: 0,
         spot: None,
@@ -75,7 +78,7 @@ fn open_parts(
         (record { items = items; work = length work.old }) starts.new marks.new result }
 {
     match page_room::parts_number(sizes, deltas, words, parts, items, work) {
-        Err(refusal) => refused(Some(refusal)),
+        Err(refusal) => refused(u32::from(refusal)),
         Ok(()) => {
             // The bars of a piece that is let pass are not refused.
             let _ = bars::bars(sizes, deltas, words, starts, marks);
@@ -99,7 +102,7 @@ pub fn open_piece(
         (record { items = items; work = length work.old }) starts.new marks.new result }
 {
     match heads::part_count(sizes, deltas, words) {
-        Err(refusal) => refused(Some(refusal)),
+        Err(refusal) => refused(u32::from(refusal)),
         Ok(parts) => open_parts(sizes, deltas, words, parts, items, starts, marks, work),
     }
 }
@@ -108,7 +111,7 @@ pub fn open_piece(
 pub fn goes_on(place: Place) -> bool
     ensures { result ≡ goes_on place }
 {
-    place.refusal.is_some() || place.spot.is_some() || place.next < place.parts
+    place.number != 0 || place.spot.is_some() || place.next < place.parts
 }
 
 // The next part opened: engraved into the lent arrays. It was found to have room. Its leftovers, four a bar, are not printed.
@@ -128,7 +131,7 @@ fn open_part(
     requires ready { Ready (piece sizes.now deltas.now words.now) (record { items = length heads.old; work = length work.old })
         (sheet counts.old heads.old keys.old starts.now marks.now) place }
     requires rooms { Rooms (sheet counts.old heads.old keys.old starts.now marks.now) }
-    requires number_value { (place.refusal ≡ None) × (place.spot ≡ None) × (place.next < place.parts) }
+    requires number_value { (place.number ≡ 0) × (place.spot ≡ None) × (place.next < place.parts) }
     ensures { PartOpened (piece sizes.now deltas.now words.now)
         (record { items = length heads.old; work = length work.old })
         (sheet counts.old heads.old keys.old starts.now marks.now) place
@@ -169,7 +172,7 @@ pub fn open_next(
         (sheet counts.old heads.old keys.old starts.now marks.now) place
         (sheet counts.new heads.new keys.new starts.now marks.now) result }
 {
-    if place.refusal.is_some() {
+    if place.number != 0 {
         return place;
     }
     if place.spot.is_some() {
@@ -190,7 +193,7 @@ fn behind(place: Place, put: Lines) -> Turn
     Turn {
         at: put.at,
         place: Place {
-            refusal: None,
+            number: 0,
             spot: put.rest,
             ..place
         },
@@ -212,9 +215,9 @@ pub fn put_lines(
     ensures { LinesPut (sheet counts.now heads.now keys.now starts.now marks.now)
         place out.new result }
 {
-    if let Some(refusal) = place.refusal {
-        let at = bar_lines::put_refused(out, 0, u32::from(refusal) as u64);
-        let end = refused(None);
+    if place.number != 0 {
+        let at = bar_lines::put_refused(out, 0, place.number as u64);
+        let end = refused(0);
         return Turn { at, place: end };
     }
     let Some(spot) = place.spot else {
@@ -235,10 +238,10 @@ pub struct Opened {
 
 // A refusal, with no piece.
 fn no_piece(refusal: Refusal) -> Opened
-    ensures { result ≡ no_piece refusal }
+    ensures { result ≡ no_piece (Refusal·number refusal) }
 {
     Opened {
-        place: refused(Some(refusal)),
+        place: refused(u32::from(refusal)),
         sizes: 0,
         deltas: 0,
         words: 0,

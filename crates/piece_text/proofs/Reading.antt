@@ -7,11 +7,7 @@ use native.Mathlib.Omega.{arith}
 use lib.ListN.{length, take, set, get_or, length-append, length-set}
 use lib.Seq.{take_all, take-suc, take-suc-set, take-append-le, take-nil}
 use Rattle.piece_text.specs.Held.{most_counted, Counted, Held}
-use Rattle.piece_text.specs.Text.{Reading, stepped, read_on, is_end}
-use Rattle.piece_text.specs.contracts.Line.{the_type}
-use Rattle.piece_text.specs.declared.Line.{Line}
-use Rattle.piece_text.specs.declared.Line.TheVariants.{Sizes, Deltas, Words, End}
-use denote.Enum.Bare.{sameb}
+use Rattle.piece_text.specs.Text.{Reading, stepped, read_on}
 
 module _ (l xs : List ℕ) (n v : ℕ) (h : Held l n xs) where
   more : List ℕ
@@ -64,10 +60,3 @@ read_one a bs i h = rw (add-one, take-suc bs i 0 h) (read_snoc a (take i bs) (ge
 
 pub none_held : (xs : List ℕ) → Held [] 0 xs
 none_held xs = record { counted = record { within = omega arith; exact = λ _. refl }; start = sym (take-nil (length xs)) }
-
--- the derived test of the line behind the third
-pub same_end : (l : Line) → sameb the_type l End ≡ is_end l
-same_end Sizes = refl
-same_end Deltas = refl
-same_end Words = refl
-same_end End = refl

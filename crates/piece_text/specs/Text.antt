@@ -6,12 +6,7 @@
 use Rattle.std.specs.Prelude.{ℕ, ◌+◌, ◌-◌, ◌*◌, Bool, true, false, cond, not, ◌&&◌, ◌||◌, List, [], ◌∷◌, ◌++◌, eqb, leb, ltb}
 use Rattle.std.proofs.Math.Option.{Option, none, some}
 use Rattle.rules.specs.Piece.{Piece, piece}
-use Rattle.std.specs.Prelude.{Some, None}
-use Rattle.std.specs.Option.{unwrap_or}
-use Rattle.std.specs.Prelude as std
 use Rattle.piece_text.specs.declared.Place.{Place}
-use Rattle.piece_text.specs.declared.Line.{Line}
-use Rattle.piece_text.specs.declared.Line.TheVariants.{Sizes, Deltas, Words, End}
 
 -- ---- bytes
 
@@ -34,71 +29,49 @@ largest_number = 4294967295
 
 -- The start of a text: no line ended, nothing in the line, no number begun, nothing bad.
 abbrev pub begin : Place
-begin = record { line = Sizes; started = false; begun = None; bad = false }
+begin = record { line = 0; started = false; begun = false; value = 0; bad = false }
 
 -- no such text
 abbrev pub spoiled : Place → Place
-spoiled p = record { line = p.line; started = p.started; begun = p.begun; bad = true }
+spoiled p = record { line = p.line; started = p.started; begun = p.begun; value = p.value; bad = true }
 
 -- a digit more
 abbrev pub with_digit : Place → ℕ → Place
 with_digit p b =
-    cond (ltb largest_number (unwrap_or p.begun 0 * 10 + (b - 48))) (spoiled p)
-    (record { line = p.line; started = true; begun = Some (unwrap_or p.begun 0 * 10 + (b - 48)); bad = p.bad })
+    cond (ltb largest_number (p.value * 10 + (b - 48))) (spoiled p)
+    (record { line = p.line; started = true; begun = true; value = p.value * 10 + (b - 48); bad = p.bad })
 
 -- behind a number's end, and behind a line's
 abbrev pub number_ended : Place → Place
-number_ended p = record { line = p.line; started = true; begun = None; bad = p.bad }
-
-abbrev pub next_line : Line → Line
-next_line Sizes = Deltas
-next_line Deltas = Words
-next_line Words = End
-next_line End = End
+number_ended p = record { line = p.line; started = true; begun = false; value = 0; bad = p.bad }
 
 abbrev pub line_ended : Place → Place
-line_ended p = record { line = next_line p.line; started = false; begun = None; bad = p.bad }
-
-abbrev pub is_end : Line → Bool
-is_end Sizes = false
-is_end Deltas = false
-is_end Words = false
-is_end End = true
+line_ended p = record { line = p.line + 1; started = false; begun = false; value = 0; bad = p.bad }
 
 -- behind one byte more; nothing may stand behind the third line
 unfoldable pub place_after : Place → ℕ → Place
 place_after p b =
-    cond (is_end p.line) (spoiled p)
+    cond (ltb 2 p.line) (spoiled p)
     (cond (is_digit b) (with_digit p b)
     (cond (is_blank b) (number_ended p)
     (cond (is_line_feed b) (line_ended p) (spoiled p))))
 
 -- the third line has ended, or the text ends in it
-abbrev pub lines_done : Line → Bool → Bool
-lines_done Sizes started = false
-lines_done Deltas started = false
-lines_done Words started = started
-lines_done End started = true
-
 abbrev pub three_lines : Place → Bool
-three_lines p = not p.bad && lines_done p.line p.started
+three_lines p = not p.bad && (eqb p.line 3 || eqb p.line 2 && p.started)
 
 -- ---- numbers
 
 -- a number more in the array of a line
-unfoldable pub put_number : Line → ℕ → Piece → Piece
-put_number Sizes v x = piece (x.sizes ++ (v ∷ [])) x.deltas x.words
-put_number Deltas v x = piece x.sizes (x.deltas ++ (v ∷ [])) x.words
-put_number Words v x = piece x.sizes x.deltas (x.words ++ (v ∷ []))
-put_number End v x = x
+unfoldable pub put_number : ℕ → ℕ → Piece → Piece
+put_number line v x =
+    cond (eqb line 0) (piece (x.sizes ++ (v ∷ [])) x.deltas x.words)
+    (cond (eqb line 1) (piece x.sizes (x.deltas ++ (v ∷ [])) x.words)
+    (cond (eqb line 2) (piece x.sizes x.deltas (x.words ++ (v ∷ []))) x))
 
 -- the number begun, where there is one
-abbrev pub put_some : Line → std.Option ℕ → Piece → Piece
-put_some line None x = x
-put_some line (Some v) x = put_number line v x
-
 abbrev pub put_begun : Place → Piece → Piece
-put_begun p x = put_some p.line p.begun x
+put_begun p x = cond p.begun (put_number p.line p.value x) x
 
 -- ---- the text
 

@@ -5,26 +5,19 @@ ghost use Rattle.std.specs.Prelude.{ℕ, ◌*◌, ◌≤◌, ◌<◌, List, [], 
 ghost use Rattle.rules.specs.Piece.{Piece, piece};
 ghost use Rattle.rules.specs.Refusals.{first_number, piece_refusals};
 ghost use Rattle.basics.specs.Refusals.{number as Refusal·number, number_of};
-ghost use Rattle.piece_text.specs.Text.{is_blank, ends_number, next_line, spoiled, with_digit, number_ended, line_ended, place_after, three_lines, put_number, put_begun, Reading, stepped, read_on, nothing_read, ended, text_piece};
+ghost use Rattle.piece_text.specs.Text.{is_blank, ends_number, spoiled, with_digit, number_ended, line_ended, place_after, three_lines, put_number, put_begun, Reading, stepped, read_on, nothing_read, ended, text_piece};
 ghost use Rattle.piece_text.specs.Held.{Counted, Held, PieceHeld, ReadingHeld, Answers, Fit, Due};
 
 use basics::{LARGEST_SIZE, Refusal};
 
-// The lines of a text, one for each array, and what stands behind them.
-#[derive(Clone, Copy, Debug, PartialEq, Eq)]
-pub enum Line {
-    Sizes,
-    Deltas,
-    Words,
-    End,
-}
-
-// How far a text is read: its line, whether that has a byte, the number begun, and whether the text is bad.
+// How far a text is read: the lines ended, whether the line has a byte, the number begun, and whether the text is bad.
+// Kept: read_bytes and finish take any place, also one that no text leads to; numbers and flags say them all.
 #[derive(Clone, Copy, Debug, PartialEq, Eq)]
 pub struct Place {
-    pub line: Line,
+    pub line: u32,
     pub started: bool,
-    pub begun: Option<u32>,
+    pub begun: bool,
+    pub value: u32,
     pub bad: bool,
 }
 
@@ -54,18 +47,6 @@ fn ends_number(b: u8) -> bool
     is_blank(b) || b == b'\n'
 }
 
-impl Line {
-    fn next(self) -> Line
-        ensures { result ≡ next_line self }
-    {
-        match self {
-            Line::Sizes => Line::Deltas,
-            Line::Deltas => Line::Words,
-            Line::Words | Line::End => Line::End,
-        }
-    }
-}
-
 impl Place {
     fn spoil(self) -> Place
         ensures { result ≡ spoiled self }
@@ -77,13 +58,14 @@ impl Place {
         requires { 48 ≤ b }
         ensures { result ≡ with_digit self b }
     {
-        let value = self.begun.unwrap_or(0) as u64 * 10 + (b as u64 - 48);
+        let value = self.value as u64 * 10 + (b as u64 - 48);
         if 4294967295 < value {
             return self.spoil();
         }
         Place {
             started: true,
-            begun: Some(value as u32),
+            begun: true,
+            value: value as u32,
             ..self
         }
     }
@@ -93,18 +75,21 @@ impl Place {
     {
         Place {
             started: true,
-            begun: None,
+            begun: false,
+            value: 0,
             ..self
         }
     }
 
     fn end_line(self) -> Place
+        requires { self.line ≤ 2 }
         ensures { result ≡ line_ended self }
     {
         Place {
-            line: self.line.next(),
+            line: self.line + 1,
             started: false,
-            begun: None,
+            begun: false,
+            value: 0,
             ..self
         }
     }
@@ -113,7 +98,7 @@ impl Place {
     fn after(self, b: u8) -> Place
         ensures { result ≡ place_after self b }
     {
-        if self.line == Line::End {
+        if 2 < self.line {
             return self.spoil();
         }
         if b.is_ascii_digit() {
@@ -135,11 +120,10 @@ impl Place {
         if self.bad {
             return false;
         }
-        match self.line {
-            Line::End => true,
-            Line::Words => self.started,
-            Line::Sizes | Line::Deltas => false,
+        if self.line == 3 {
+            return true;
         }
+        self.line == 2 && self.started
     }
 }
 
@@ -162,7 +146,7 @@ fn store(xs: &mut [u32], n: usize, v: u32) -> usize
 
 // Stores a number of a line in its array.
 fn store_number(
-    line: Line,
+    line: u32,
     v: u32,
     counts: Counts,
     sizes: &mut [u32],
@@ -173,19 +157,19 @@ fn store_number(
         → PieceHeld (put_number line v x) result sizes.new deltas.new words.new }
 {
     match line {
-        Line::Sizes => {
+        0 => {
             let sizes = store(sizes, counts.sizes, v);
             Counts { sizes, ..counts }
         }
-        Line::Deltas => {
+        1 => {
             let deltas = store(deltas, counts.deltas, v);
             Counts { deltas, ..counts }
         }
-        Line::Words => {
+        2 => {
             let words = store(words, counts.words, v);
             Counts { words, ..counts }
         }
-        Line::End => counts,
+        _ => counts,
     }
 }
 
@@ -200,10 +184,10 @@ fn store_begun(
     ensures { (x : Piece) → PieceHeld x counts sizes.old deltas.old words.old
         → PieceHeld (put_begun at x) result sizes.new deltas.new words.new }
 {
-    match at.begun {
-        Some(v) => store_number(at.line, v, counts, sizes, deltas, words),
-        None => counts,
+    if at.begun {
+        return store_number(at.line, at.value, counts, sizes, deltas, words);
     }
+    counts
 }
 
 // One byte read.
@@ -230,9 +214,10 @@ pub fn start() -> Reader
 {
     Reader {
         at: Place {
-            line: Line::Sizes,
+            line: 0,
             started: false,
-            begun: None,
+            begun: false,
+            value: 0,
             bad: false,
         },
         counts: Counts {

@@ -6,7 +6,7 @@ use Rattle.page_openings.proofs.open_parts.Goals as goal
 
 pub returns-in-Err : goal.returns-in-Err
 returns-in-Err c =
-    rw c.refused.ensures (room_refused _ _ _ _ _ c.requires.passes (sym (ap number_of c.in-Err.is) ∙ c.parts_number.ensures))
+    rw (c.refused.ensures, c.from.ensures) (room_refused _ _ _ _ _ c.requires.passes (sym (ap number_of c.in-Err.is) ∙ c.parts_number.ensures))
 
 pub returns-in-Ok : goal.returns-in-Ok
 returns-in-Ok c =

@@ -11,4 +11,4 @@ open_parts-requires c =
 
 pub returns-in-Err : goal.returns-in-Err
 returns-in-Err c =
-    rw c.refused.ensures (piece_refused _ _ _ _ _ (ap count_answer (sym c.in-Err.is) ∙ c.part_count.ensures))
+    rw (c.refused.ensures, c.from.ensures) (piece_refused _ _ _ _ _ (ap count_answer (sym c.in-Err.is) ∙ c.part_count.ensures))

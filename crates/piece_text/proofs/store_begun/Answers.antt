@@ -1,8 +1,8 @@
 -- `piece_text::store_begun` stores the number that was begun, if one was.
 use Rattle.piece_text.proofs.store_begun.Goals as goal
 
-pub returns-in-Some : goal.returns-in-Some
-returns-in-Some c = λ x h. rw c.in-Some.is (c.store_number.ensures x h)
+pub returns-then-at : goal.returns-then-at
+returns-then-at c = λ x h. rw c.if-at.true (c.store_number.ensures x h)
 
-pub returns-in-None : goal.returns-in-None
-returns-in-None c = λ x h. rw c.in-None.is h
+pub returns : goal.returns
+returns c = λ x h. rw c.if-at.false h

@@ -1,5 +1,4 @@
 -- `piece_text::Place::digit` is the place behind a digit.
-use mathlib.Core.Path.{sym}
 use borrow.Author.Tests.{lt-ltb, le-ltb}
 use borrow.Author.Rules.{rules}
 use Rattle.piece_text.proofs.Place.digit.Goals as goal
@@ -20,10 +19,10 @@ pub spoil-requires : goal.spoil-requires
 spoil-requires c = search rules
 
 pub returns-then-value-gt4294967295 : goal.returns-then-value-gt4294967295
-returns-then-value-gt4294967295 c = simp (sym c.unwrap_or.ensures, lt-ltb _ _ c.if-value-gt4294967295.true) c.spoil.ensures
+returns-then-value-gt4294967295 c = simp (lt-ltb _ _ c.if-value-gt4294967295.true) c.spoil.ensures
 
 pub overflow_cast-result : goal.overflow_cast-result
 overflow_cast-result c = search rules
 
 pub returns : goal.returns
-returns c = simp (sym c.unwrap_or.ensures, le-ltb _ _ c.if-value-gt4294967295.false)
+returns c = simp (le-ltb _ _ c.if-value-gt4294967295.false)
