@@ -76,7 +76,7 @@ module _ (es : List Timed) (e : Timed) (g h : Gathered) (ds ws d w : List ℕ) (
       let n : g.events ≡ length (words_of es) = held.count ∙ sym (length-map es (λ (t : Timed). word_of t.message)) in
       rw (n, held.words, map-append (λ (t : Timed). word_of t.message) es (e ∷ [])) (fitted_more (words_of es) ws (word_of e.message))
 
-  pub event_more : h.events ≡ g.events + 1 → h.good ≡ g.good && well_formed (word_of e.message)
+  pub event_more : h.events ≡ g.events + 1 → eqb h.bad 0 ≡ eqb g.bad 0 && well_formed (word_of e.message)
       → EventsHeld (es ++ (e ∷ [])) h ds ws (stored d g.events e.delta) (stored w g.events (word_of e.message))
   event_more c k =
       record {
@@ -89,7 +89,7 @@ module _ (es : List Timed) (e : Timed) (g h : Gathered) (ds ws d w : List ℕ) (
 
 -- the same of an event as it was read
 pub event_put : (bs : List ℕ) (at : ℕ) (e : Front Timed) (t : TimedEvent) (es : List Timed) (g h : Gathered) (ds ws d w d₁ w₁ : List ℕ)
-    → EventIs bs at e t → EventsHeld es g ds ws d w → h.events ≡ g.events + 1 → h.good ≡ g.good && t.event.good
+    → EventIs bs at e t → EventsHeld es g ds ws d w → h.events ≡ g.events + 1 → eqb h.bad 0 ≡ eqb g.bad 0 && t.event.good
     → d₁ ≡ stored d g.events t.delta → w₁ ≡ stored w g.events t.event.word → EventsHeld (es ++ (e.read ∷ [])) h ds ws d₁ w₁
 event_put bs at e t es g h ds ws d w d₁ w₁ is held c k f i =
     rw (f, i, is.delta, is.word) (event_more es e.read g h ds ws d w held c (k ∙ rw (is.good, is.word)))
@@ -195,7 +195,7 @@ unfolding flatten
 flatten_snoc xs x = flatten_append xs (x ∷ []) ∙ rw (append-nil x)
 
 pub track_put : (ts : List (List Timed)) (t : List Timed) (g h k : Gathered) (ss ds ws s d w s₁ d₁ w₁ : List ℕ) → TracksHeld ts g ss ds ws s d w
-    → EventsHeld (flatten ts ++ t) h ds ws d₁ w₁ → k.tracks ≡ g.tracks + 1 → k.events ≡ h.events → k.good ≡ h.good
+    → EventsHeld (flatten ts ++ t) h ds ws d₁ w₁ → k.tracks ≡ g.tracks + 1 → k.events ≡ h.events → k.bad ≡ h.bad
     → s₁ ≡ stored s g.tracks (h.events - g.events) → TracksHeld (ts ++ (t ∷ [])) k ss ds ws s₁ d₁ w₁
 track_put ts t g h k ss ds ws s d w s₁ d₁ w₁ held more a b e f =
     let n : g.tracks ≡ length (map length ts) = held.count ∙ sym (length-map ts length) in
@@ -316,7 +316,7 @@ pub record Chunks (bs : List ℕ) (start : ℕ) (g : Gathered) (at : ℕ) (ss ds
   pub left : tracks_of (drop start bs) ≡ prepend done (tracks_of (drop at bs))
   pub held : TracksHeld done g ss ds ws s d w
 
-pub chunks_start : (bs : List ℕ) (start : ℕ) (ss ds ws : List ℕ) → Chunks bs start (record { tracks = 0; events = 0; good = true }) start ss ds ws ss ds ws
+pub chunks_start : (bs : List ℕ) (start : ℕ) (ss ds ws : List ℕ) → Chunks bs start (record { tracks = 0; events = 0; bad = 0 }) start ss ds ws ss ds ws
 unfolding flatten every
 chunks_start bs start ss ds ws =
     record {

@@ -25,7 +25,7 @@ stored l n v = cond (ltb n (length l)) (set l n v) l
 -- the events es: counted, their words judged, their deltas and words stored in arrays that held ds and ws and now hold ds₁ and ws₁
 pub record EventsHeld (es : List Timed) (g : Gathered) (ds ws ds₁ ws₁ : List ℕ) : Type 0 where
   pub count : g.events ≡ length es
-  pub good : g.good ≡ every well_formed (words_of es)
+  pub good : eqb g.bad 0 ≡ every well_formed (words_of es)
   pub deltas : ds₁ ≡ fitted (deltas_of es) ds
   pub words : ws₁ ≡ fitted (words_of es) ws
 

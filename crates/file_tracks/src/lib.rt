@@ -17,12 +17,13 @@ pub const MTHD: u32 = 0x4d54_6864;
 
 const MTRK: u32 = 0x4d54_726b;
 
-// What was gathered: tracks and events counted; good says whether every word is in the table of kinds.
+// What was gathered: tracks and events counted; bad is 0 where every word is in the table of kinds, else 1.
 #[derive(Clone, Copy)]
 pub struct Gathered {
     pub tracks: usize,
     pub events: usize,
-    pub good: bool,
+    // Kept: as a bool it is narrower than the counts, and each copy waits for its store: 64 MB of empty chunks took 96 ms in place of 36.
+    pub bad: usize,
 }
 
 // A chunk: its type, where its bytes start, and where those behind it start.
@@ -31,6 +32,13 @@ pub struct Chunk {
     pub kind: u32,
     pub from: usize,
     pub to: usize,
+}
+
+// One word more, in the table or not.
+fn noted(bad: usize, good: bool) -> usize
+    ensures { eqb result 0 ≡ (eqb bad 0 && good) }
+{
+    if good { bad } else { 1 }
 }
 
 // Stores an element, where there is room.
@@ -56,7 +64,7 @@ fn put_event(timed: TimedEvent, g: Gathered, deltas: &mut [u32], words: &mut [u3
     Gathered {
         tracks: g.tracks,
         events: g.events + 1,
-        good: g.good && event.good,
+        bad: noted(g.bad, event.good),
     }
 }
 
@@ -145,7 +153,7 @@ fn gather_track(
     Some(Gathered {
         tracks: gathered.tracks + 1,
         events: g.events,
-        good: g.good,
+        bad: g.bad,
     })
 }
 
@@ -194,7 +202,7 @@ pub fn gather_tracks(
     let mut g = Gathered {
         tracks: 0,
         events: 0,
-        good: true,
+        bad: 0,
     };
     let mut at = start;
     // Kept: a chunk says where the next one starts, so no range does.

@@ -102,7 +102,7 @@ fn examine_tracks(bytes: &[u8], h: Header) -> Result<Examined, Refusal>
     )
     .ok_or(Refusal::BrokenFile)?;
     let fits = count_fits(h, g.tracks);
-    first_number(fits, h.division, g.events, g.good)?;
+    first_number(fits, h.division, g.events, g.bad == 0)?;
     Ok(Examined {
         division: h.division,
         start: h.next,
