@@ -101,6 +101,10 @@ fn none_chained(bases: [Option<u32>; 16]) -> bool
 fn is_automation_of(word: u32, channel: u32) -> bool
     ensures { result ≡ is_word_of channel word }
 {
+    // The channel first: most words of a track are of another one, and their kinds need not be looked at.
+    if track_events::byte_a(word) != channel {
+        return false;
+    }
     match track_events::known_kind(word) {
         Some(
             Kind::Bend
@@ -108,7 +112,7 @@ fn is_automation_of(word: u32, channel: u32) -> bool
             | Kind::Program
             | Kind::KeyPressure
             | Kind::ChannelPressure,
-        ) => track_events::byte_a(word) == channel,
+        ) => true,
         _ => false,
     }
 }

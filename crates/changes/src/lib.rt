@@ -2,6 +2,7 @@
 #![tactic(auto)]
 
 ghost use Rattle.std.specs.Prelude.{◌<◌, ◌≡◌, true};
+ghost use Rattle.std.specs.Option.{option_or};
 ghost use Rattle.rules.specs.Piece.{byte_b, lower_figure, signed_fifths, well_formed};
 ghost use Rattle.rules.specs.Changes.{tempo_of, clamp_fifths, head_in};
 ghost use Rattle.track_events.specs.Track.{Track, events_of};
@@ -85,6 +86,16 @@ fn tempo_in(w: u32) -> Option<u32>
     Some(tempo_of(value))
 }
 
+// The tempo that was read, or else that of a tempo's word, which is worked out only where it is asked for.
+fn first_tempo(read: Option<u32>, w: u32) -> Option<u32>
+    ensures { result ≡ option_or read (tempo_in w) }
+{
+    match read {
+        Some(tempo) => Some(tempo),
+        None => tempo_in(w),
+    }
+}
+
 // The meter of a meter's word.
 fn meter_in(w: u32) -> Meter
     requires { byte_b w < 32 }
@@ -130,7 +141,7 @@ impl Reading {
             return self;
         };
         match kind {
-            Kind::Tempo => self.tempo = self.tempo.or(tempo_in(word)),
+            Kind::Tempo => self.tempo = first_tempo(self.tempo, word),
             Kind::Meter => self.meter = self.meter.or(Some(meter_in(word))),
             Kind::Key => self.key = self.key.or(Some(key_in(word))),
             _ => {}

@@ -13,11 +13,11 @@
 ghost use Rattle.std.specs.Prelude.{ℕ, ◌+◌, ◌*◌, ◌^◌, ◌≤◌, ◌<◌, ◌≡◌, length, get_or};
 ghost use Rattle.std.specs.Int.Bits.{bit_or};
 ghost use Rattle.rules.specs.RawNotes.{RawNote};
-ghost use Rattle.rules.specs.Voices.{Chord, opened, joined};
-ghost use Rattle.laws.specs.Sort.{Rises, FallsFrom};
-ghost use Rattle.laws.specs.Places.{up_to, down};
+ghost use Rattle.rules.specs.Voices.{opened, joined};
+ghost use Rattle.laws.specs.Sort.{Rises};
+ghost use Rattle.laws.specs.Places.{up_to};
 ghost use Rattle.chords.specs.Columns.{falling_at, note_of, Ready, chord_at, keys_of, chord_of, chords_of, ChordsIn};
-ghost use Rattle.chords.specs.Steps.{SnappedTo, Fetched, SortedTo, Stored, PlaceFor};
+ghost use Rattle.chords.specs.Steps.{SnappedTo, Fetched, SortedTo, Stored};
 
 // A note.
 #[derive(Clone, Copy)]
@@ -194,23 +194,6 @@ fn join_chord(work: &mut [u64], n: usize, i: usize, note: Note)
     put_chord(work, n, i, d);
 }
 
-// The place of the chord that takes the note, of the first m: the most recent of its start and end. The chords come in order, so the search
-// ends at another start.
-fn place_for(work: &[u64], n: usize, m: usize, note: Note) -> Option<usize>
-    requires { (16 * n ≤ length work.now) × (m ≤ n) × FallsFrom (λ (c : Chord). c.start) note.start (down (chord_at n work.now) m) }
-    ensures { PlaceFor n m (note_of note) work.now result }
-{
-    for i in (0..m).rev() {
-        if work[5 * n + i] != note.start {
-            return None;
-        }
-        if work[6 * n + i] == note.end {
-            return Some(i);
-        }
-    }
-    None
-}
-
 // Gathers the sorted notes to chords: a note joins the most recent chord of its start and end, or opens one. Answers how many there are.
 pub fn gather_chords(work: &mut [u64], n: usize, count: usize) -> usize
     requires { (16 * n ≤ length work.old) × (count ≤ n) × Rises (λ (x : RawNote). x.start) (up_to (falling_at n work.old) count) }
@@ -219,7 +202,19 @@ pub fn gather_chords(work: &mut [u64], n: usize, count: usize) -> usize
     let mut chords = 0;
     for k in 0..count {
         let note = note_at(work, n, k);
-        match place_for(work, n, chords, note) {
+        // The chords come in order, so none behind one of another start takes the note.
+        let place = 'search: {
+            for i in (0..chords).rev() {
+                if work[5 * n + i] != note.start {
+                    break 'search None;
+                }
+                if work[6 * n + i] == note.end {
+                    break 'search Some(i);
+                }
+            }
+            None
+        };
+        match place {
             Some(i) => join_chord(work, n, i, note),
             None => {
                 open_chord(work, n, chords, note);

@@ -18,13 +18,13 @@ pub returns-in-Tempo : goal.returns-in-Tempo
 unfolding took
 returns-in-Tempo c =
     rw (kind_some Tempo c.known_kind.ensures (c.in-Some.is ∙ ap Some c.in-Tempo.is))
-    (rw (c.or-self.ensures, c.tempo_in.ensures))
+    (rw c.first_tempo-self.ensures)
 
 pub returns-in-Meter : goal.returns-in-Meter
 unfolding took
 returns-in-Meter c =
     rw (kind_some Meter c.known_kind.ensures (c.in-Some.is ∙ ap Some c.in-Meter.is))
-    (rw (c.or-self-in-Meter.ensures, c.meter_in.ensures))
+    (rw (c.or-self.ensures, c.meter_in.ensures))
 
 pub returns-in-Key : goal.returns-in-Key
 unfolding took
