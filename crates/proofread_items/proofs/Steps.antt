@@ -6,7 +6,6 @@ use mathlib.Core.Option.{Option}
 use mathlib.Core.Path.{◌≡◌, refl, sym, ap, subst, ◌∙◌}
 use Rattle.std.specs.Prelude as std
 use Rattle.std.specs.Option.{is_some}
-use Rattle.std.proofs.lemmas.Option.{IfSome_then}
 use native.Mathlib.Omega.{arith}
 use borrow.Author.Tests.{leb-true}
 use Rattle.rules.specs.ProofReader.{item_ticks, Played}
@@ -22,19 +21,20 @@ use Rattle.proofread_items.specs.declared.Voice.{Voice}
 
 -- ---- the last chord is closed
 module _ {g n m e next : ℕ} {w : List ℕ} {v : Voice} where
-  pub closes_chord : {w' : List ℕ} {c : Chord} {r : std.Option ℕ} → Readable g n m w → v.chord ≡ std.Some c → Checks g n m e c next w w' r
+  pub closes_chord : {w' : List ℕ} {c : Chord} {r : std.Result ℕ ℕ} → Readable g n m w → v.chord ≡ std.Some c → Checks g n m e c next w w' r
       → Closes g n m e next w w' v r
   closes_chord {r = r} ready s k =
       record {
         same = k.same;
         ok = rw s k.ok;
-        from = rw s (IfSome_then r k.skipped (λ j q. (q.within, before_same k.same (omega (arith, q.within, ready.room)) q.before)));
+        within = k.skipped.within;
+        before = rw s (before_same k.same (omega (arith, k.skipped.within, ready.room)) k.skipped.before);
         marks = λ cs c. rw s (k.marks cs c);
       }
 
-  pub closes_none : v.chord ≡ std.None → Paced g n m w v → Closes g n m e next w w v (std.Some v.from)
+  pub closes_none : v.chord ≡ std.None → Paced g n m w v → Closes g n m e next w w v (std.Ok v.from)
   closes_none s k =
-      record { same = same_self n w; ok = rw s; from = (k.within, k.before); marks = λ cs c. rw s c }
+      record { same = same_self n w; ok = rw s; within = k.within; before = k.before; marks = λ cs c. rw s c }
 
 -- ---- the item is played
 module _ {g n m e end : ℕ} {i : Item} {w : List ℕ} {v : Voice} (k : Paced g n m w v) where
@@ -66,11 +66,11 @@ module _ {g n m e end : ℕ} {i : Item} {w : List ℕ} {v : Voice} (k : Paced g 
       }
 
   module _ (t : i.rest ≡ false) (u : i.tie_in ≡ false) where
-    pub sounds_not : {w' : List ℕ} → Closes g n m e v.tick w w' v std.None → Sounds g n m e i end w w' v std.None
+    pub sounds_not : {w' : List ℕ} {k : ℕ} → Closes g n m e v.tick w w' v (std.Err k) → Sounds g n m e i end w w' v std.None
     sounds_not x = record { same = x.same; ok = rw (t, u) x.ok; voice = tt; marks = λ cs o. rw (t, u) (x.marks cs o) }
 
     -- the last chord is closed, and s is the voice with a chord more
-    pub sounds_new : {w' : List ℕ} {f : ℕ} {s : Voice} → Closes g n m e v.tick w w' v (std.Some f) → s.from ≡ f
+    pub sounds_new : {w' : List ℕ} {f : ℕ} {s : Voice} → Closes g n m e v.tick w w' v (std.Ok f) → s.from ≡ f
         → s.chord ≡ std.Some (record { start = v.tick; end = end; low = i.low; high = i.high; unpitched = i.unpitched })
         → Sounds g n m e i end w w' v (std.Some s)
     sounds_new {w'} {f} {s} x b c =
@@ -80,8 +80,8 @@ module _ {g n m e end : ℕ} {i : Item} {w : List ℕ} {v : Voice} (k : Paced g 
           voice =
               record {
                 chord = rw (t, u, c);
-                within = omega (arith, b, x.from.0);
-                before = rw (b, c) (before_later k.reached x.from.1);
+                within = omega (arith, b, x.within);
+                before = rw (b, c) (before_later k.reached x.before);
                 reached = omega (arith, ap last_start c);
               };
           marks = λ cs o. rw (t, u) (x.marks cs o);

@@ -1,6 +1,7 @@
 -- A voice played back item by item: what is heard of it, and what the steps of the code promise.
 use Rattle.std.specs.Prelude as std
 use Rattle.std.specs.Option.{is_some}
+use Rattle.std.specs.Result.{is_ok}
 use Rattle.std.specs.Prelude.{ℕ, ◌+◌, ◌*◌, ◌^◌, ◌≤◌, Bool, true, false, cond, ◌&&◌, ◌≡◌}
 use mathlib.Core.List.{List, ◌∷◌, map, foldl}
 use Rattle.std.proofs.Math.Option.{Option, none, some}
@@ -11,7 +12,7 @@ use Rattle.rules.specs.ProofReader as facts
 use Rattle.rules.specs.ProofReaderTests.{staff_value?, clean?, meets?}
 use Rattle.rules.specs.Items as items
 use Rattle.proofread_notes.specs.Columns.{notes_at, Same, Before, Marks}
-use Rattle.proofread_notes.specs.Chords.{played_of, chord_ok?}
+use Rattle.proofread_notes.specs.Chords.{played_of, chord_ok?, place_of}
 use Rattle.proofread_notes.specs.declared.Chord.{Chord}
 use Rattle.proofread_items.specs.declared.Item.{Item}
 use Rattle.proofread_items.specs.declared.Tie.{Tie}
@@ -125,11 +126,12 @@ pub record Paced (g n m : ℕ) (w : List ℕ) (v : Voice) : Type 0 where
   pub before : Before g n w v.from (last_start v.chord)
   pub reached : last_start v.chord ≤ v.tick
 
--- the last chord is closed, and r is where the notes of the next one are looked for
-pub record Closes (g n m e next : ℕ) (w w' : List ℕ) (v : Voice) (r : std.Option ℕ) : Type 0 where
+-- the last chord is closed, and r is where the notes of the next one are looked for, whether all is right or not
+pub record Closes (g n m e next : ℕ) (w w' : List ℕ) (v : Voice) (r : std.Result ℕ ℕ) : Type 0 where
   pub same : Same n w w'
-  pub ok : is_some r ≡ last_ok? e (notes_at g n m w) (chord_of v) next
-  pub from : std.IfSome r (λ (k : ℕ). (k ≤ m) × Before g n w' k (last_start v.chord))
+  pub ok : is_ok r ≡ last_ok? e (notes_at g n m w) (chord_of v) next
+  pub within : place_of r ≤ m
+  pub before : Before g n w' (place_of r) (last_start v.chord)
   pub marks : (cs : List Played) → Marks g n m w cs → Marks g n m w' (closed_with (chord_of v) cs)
 
 -- the item is played, and leaves the voice s

@@ -144,7 +144,7 @@ fn item_fits(v: Voice, i: Item, p: u64) -> bool
 // ---- chords
 
 // The last chord is closed, where it ends with a note of its start, at the tick `next`, or at the last bar's end.
-// The answer is the voice's new `from`.
+// The answer is the voice's new `from`, an Err where the chord is not right.
 pub fn close_chord(
     work: &mut [u64],
     n: usize,
@@ -153,13 +153,13 @@ pub fn close_chord(
     e: u64,
     v: Voice,
     next: u64,
-) -> Option<usize>
+) -> Result<usize, usize>
     requires { Readable g n m work.old × Paced g n m work.old v }
     ensures { Closes g n m e next work.old work.new v result }
 {
     match v.chord {
         Some(c) => proofread_notes::check_chord(work, n, m, g, e, v.from, c, next),
-        None => Some(v.from),
+        None => Ok(v.from),
     }
 }
 
@@ -194,7 +194,7 @@ fn sound(
         let chord = prolonged(v.chord, end);
         return Some(Voice { chord, ..v });
     }
-    let from = close_chord(work, n, m, g, e, v, v.tick)?;
+    let from = close_chord(work, n, m, g, e, v, v.tick).ok()?;
     let chord = Chord {
         start: v.tick,
         end,

@@ -123,7 +123,7 @@ module _ {g n m : ℕ} {c : Chord} {w w' : List ℕ} {x : Group} (ready : Readab
 module _ {g n m e : ℕ} {c : Chord} {next : ℕ} {w w' : List ℕ} {x : Group} {at : ℕ} (ready : Readable g n m w) (s : Scanned g n m c w w' x)
     (skipped : Skipped g n m w c.start at) (cl : c.low < 2 ^ 64) (ch : c.high < 2 ^ 64) (xl : x.low < 2 ^ 64) (xh : x.high < 2 ^ 64) {fit : Bool}
     (f : fit ≡ keys_fit? c x e) where
-  pub checks_yes : fit ≡ true → true ≡ (x.ended || eqb c.end next || eqb c.end e) → Checks g n m e c next w w' (std.Some at)
+  pub checks_yes : fit ≡ true → true ≡ (x.ended || eqb c.end next || eqb c.end e) → Checks g n m e c next w w' (std.Ok at)
   checks_yes t o =
       record {
         ok = o ∙ chord_yes e (notes_at g n m w) c x s.group cl ch xl xh next (sym f ∙ t);
@@ -132,15 +132,15 @@ module _ {g n m e : ℕ} {c : Chord} {next : ℕ} {w w' : List ℕ} {x : Group} 
         marks = marks_more ready s;
       }
 
-  pub checks_end : fit ≡ true → false ≡ (x.ended || eqb c.end next || eqb c.end e) → Checks g n m e c next w w' std.None
+  pub checks_end : fit ≡ true → false ≡ (x.ended || eqb c.end next || eqb c.end e) → Checks g n m e c next w w' (std.Err at)
   checks_end t o =
       record {
         ok = o ∙ chord_yes e (notes_at g n m w) c x s.group cl ch xl xh next (sym f ∙ t);
         same = s.same;
-        skipped = tt;
+        skipped = skipped;
         marks = marks_more ready s;
       }
 
-  pub checks_no : fit ≡ false → Checks g n m e c next w w' std.None
+  pub checks_no : fit ≡ false → Checks g n m e c next w w' (std.Err at)
   checks_no t =
-      record { ok = chord_no e (notes_at g n m w) c x s.group cl ch xl xh next (sym f ∙ t); same = s.same; skipped = tt; marks = marks_more ready s }
+      record { ok = chord_no e (notes_at g n m w) c x s.group cl ch xl xh next (sym f ∙ t); same = s.same; skipped = skipped; marks = marks_more ready s }

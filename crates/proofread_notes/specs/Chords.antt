@@ -1,6 +1,6 @@
 -- A chord held against the notes of its start.
-use Rattle.std.specs.Prelude.{ℕ, ◌+◌, ◌*◌, ◌^◌, ◌<◌, max, Bool, cond, ◌&&◌, ◌||◌, List, ◌∷◌, Option, IfSome, ◌≡◌, eqb, ltb, get_or, set}
-use Rattle.std.specs.Option.{is_some}
+use Rattle.std.specs.Prelude.{ℕ, ◌+◌, ◌*◌, ◌^◌, ◌<◌, max, Bool, cond, ◌&&◌, ◌||◌, List, ◌∷◌, Result, Ok, Err, ◌≡◌, eqb, ltb, get_or, set}
+use Rattle.std.specs.Result.{is_ok}
 use Rattle.std.specs.Int.Bits.{bit_or}
 use Rattle.rules.specs.Lists.{any, bit, flag}
 use Rattle.rules.specs.RawNotes.{RawNote}
@@ -60,8 +60,13 @@ pub record Scanned (g n m : ℕ) (c : Chord) (w w' : List ℕ) (x : Group) : Typ
 
 -- ---- the whole
 
-pub record Checks (g n m e : ℕ) (c : Chord) (next : ℕ) (w w' : List ℕ) (r : Option ℕ) : Type 0 where
-  pub ok : is_some r ≡ chord_ok? e (notes_at g n m w) (played_of c) next
+-- the place answered, whether all is right or not
+abbrev pub place_of : Result ℕ ℕ → ℕ
+place_of (Ok k) = k
+place_of (Err k) = k
+
+pub record Checks (g n m e : ℕ) (c : Chord) (next : ℕ) (w w' : List ℕ) (r : Result ℕ ℕ) : Type 0 where
+  pub ok : is_ok r ≡ chord_ok? e (notes_at g n m w) (played_of c) next
   pub same : Same n w w'
-  pub skipped : IfSome r (Skipped g n m w c.start)
+  pub skipped : Skipped g n m w c.start (place_of r)
   pub marks : (cs : List Played) → Marks g n m w cs → Marks g n m w' (played_of c ∷ cs)

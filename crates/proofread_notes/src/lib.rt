@@ -160,7 +160,7 @@ fn end_meant(c: Chord, x: Group, next: u64, e: u64) -> bool
 }
 
 // Holds a chord against the notes: its keys are theirs, and it ends with one of them, at its voice's next chord, or at the last bar's end.
-// Where it is right the answer is the first note that does not start before it. The notes whose keys it has are marked.
+// The answer is the first note that does not start before it, an Err where it is not right. The notes whose keys it has are marked.
 pub fn check_chord(
     work: &mut [u64],
     n: usize,
@@ -170,16 +170,16 @@ pub fn check_chord(
     from: usize,
     c: Chord,
     next: u64,
-) -> Option<usize>
+) -> Result<usize, usize>
     requires { Readable g n m work.old × (from ≤ m) × Before g n work.old from c.start }
     ensures { Checks g n m e c next work.old work.new result }
 {
     let at = skip(work, n, m, g, from, c.start);
     let x = scan(work, n, m, g, at, c);
     if keys_meant(c, x, e) && end_meant(c, x, next, e) {
-        Some(at)
+        Ok(at)
     } else {
-        None
+        Err(at)
     }
 }
 

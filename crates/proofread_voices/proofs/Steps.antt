@@ -8,7 +8,7 @@ use native.Mathlib.Omega.{arith}
 use borrow.Author.Tests.{eq-eqb, ne_eqb, eqb-true}
 use lib.Dec.{eqb}
 use Rattle.std.specs.Prelude as std
-use Rattle.std.specs.Option.{is_some}
+use Rattle.std.specs.Result.{is_ok}
 use Rattle.rules.specs.Lists.{sum, is_empty}
 use Rattle.rules.specs.Bars.{Bar}
 use Rattle.rules.specs.Items.{Item}
@@ -100,7 +100,7 @@ module _ (g n m e p start until v : ℕ) (is : List Item) (w : List ℕ) (voice 
 
 -- ---- the voice's end
 module _ {g n m e : ℕ} {w w' : List ℕ} {v : Voice} where
-  pub ends_closed : {r : std.Option ℕ} → free_at? e (tie_of v) ≡ true → Closes g n m e e w w' v r → EndsVoice g n m e w w' v (is_some r)
+  pub ends_closed : {r : std.Result ℕ ℕ} → free_at? e (tie_of v) ≡ true → Closes g n m e e w w' v r → EndsVoice g n m e w w' v (is_ok r)
   ends_closed f c = record { same = c.same; ok = rw f c.ok; marks = λ t. c.marks }
 
 pub ends_tied : {g n m e : ℕ} {w : List ℕ} {v : Voice} → free_at? e (tie_of v) ≡ false → EndsVoice g n m e w w v false

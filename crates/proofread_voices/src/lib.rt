@@ -97,7 +97,7 @@ fn end_voice(work: &mut [u64], n: usize, m: usize, g: u64, e: u64, v: Voice) -> 
     requires { Readable g n m work.old × Paced g n m work.old v }
     ensures { EndsVoice g n m e work.old work.new v result }
 {
-    free_at(v, e) && proofread_items::close_chord(work, n, m, g, e, v, e).is_some()
+    free_at(v, e) && proofread_items::close_chord(work, n, m, g, e, v, e).is_ok()
 }
 
 // Reads voice v through all bars: the notes stand in the work area, e is the last bar's end.
