@@ -14,7 +14,7 @@ use Rattle.rules.specs.Items as items
 use Rattle.rules.specs.ProofReader.{item_ticks, Timed, timed_from, Played}
 use Rattle.proofread_notes.specs.Columns.{notes_at, Same, Marks}
 use Rattle.proofread_notes.proofs.Areas.{same_self, same_then, notes_same}
-use Rattle.proofread_items.specs.Playing.{Heard, hear_one, run, as_item, timed_at, heard_of, Paced, Takes, TakesAll}
+use Rattle.proofread_items.specs.Playing.{Heard, hear_one, run, as_item, timed_at, heard_of, Paced, StaysBefore, Takes, TakesAll}
 use Rattle.proofread_items.specs.declared.Item.{Item}
 use Rattle.proofread_items.specs.declared.Voice.{Voice}
 use Rattle.proofread_items.proofs.Lengths.{item_at, items_cons, items_none}
@@ -34,12 +34,13 @@ pub record Left (g n m e p : ℕ) (ns : List RawNote) (all left : List items.Ite
 pub record Reading (g n m e p : ℕ) (all left : List items.Item) (w₀ w : List ℕ) (v₀ v : Voice) : Type 0 where
   pub area : Same n w₀ w
   pub paced : Paced g n m w v
+  pub stays : StaysBefore g n w₀ w v₀ v
   pub hears : (cs : List Played) → Marks g n m w₀ cs → Left g n m e p (notes_at g n m w₀) all left v₀ cs w v
   pub ticks : v.tick + sum (map (item_ticks p) left) ≡ v₀.tick + sum (map (item_ticks p) all)
 
 pub reading_start : {g n m e p : ℕ} {all : List items.Item} {w : List ℕ} {v : Voice} → Paced g n m w v → Reading g n m e p all all w w v v
 reading_start {n = n} {w = w} k =
-    record { area = same_self n w; paced = k; hears = λ cs c. record { closed = cs; marks = c; same = refl }; ticks = refl }
+    record { area = same_self n w; paced = k; stays = λ o b. b; hears = λ cs c. record { closed = cs; marks = c; same = refl }; ticks = refl }
 
 module _ {g n m e p : ℕ} {all left : List items.Item} {w₀ w : List ℕ} {v₀ v : Voice} (i : Item) (room : m ≤ n)
     (now : Reading g n m e p all (as_item i ∷ left) w₀ w v₀ v) where
@@ -57,6 +58,7 @@ module _ {g n m e p : ℕ} {all left : List items.Item} {w₀ w : List ℕ} {v�
       record {
         area = same_then now.area t.hears.same;
         paced = t.hears.is.paced;
+        stays = λ o b. t.stays o (now.stays o b);
         hears =
             λ cs c.
             let before = now.hears cs c in
@@ -84,6 +86,7 @@ module _ {g n m e p : ℕ} {all left : List items.Item} {w₀ w : List ℕ} {v�
                   (hear_one p e (notes_at g n m w) (heard_of v before.closed) (timed_at p v i)) (timed_from p (v.tick + item_ticks p (as_item i)) left)
                   (t.hears.is before.closed before.marks);
             };
+        stays = tt;
         tick = tt;
       }
 
@@ -109,6 +112,7 @@ reading_end {g} {n} {m} {e} {p} {all} {w₀} {w} {v₀} {v} now =
                   paced = now.paced;
                 };
           };
+      stays = now.stays;
       tick = omega (arith, now.ticks);
     }
 

@@ -19,6 +19,15 @@ use Rattle.proofread_items.specs.Playing.{as_item, timed_at, as_tie, tie_of, tie
 use Rattle.proofread_items.specs.declared.Item.{Item}
 use Rattle.proofread_items.specs.declared.Voice.{Voice}
 
+-- ---- the last chord's start, tick t before the first
+pub start_later : (s t : ℕ) (c : std.Option Chord) → s ≤ t → last_start s c ≤ last_start t c
+start_later s t std.None h = h
+start_later s t (std.Some c) h = omega arith
+
+pub start_within : (s t : ℕ) (c : std.Option Chord) → last_start s c ≤ t → last_start t c ≤ t
+start_within s t std.None h = omega arith
+start_within s t (std.Some c) h = h
+
 -- ---- the last chord is closed
 module _ {g n m e next : ℕ} {w : List ℕ} {v : Voice} where
   pub closes_chord : {w' : List ℕ} {c : Chord} {r : std.Result ℕ ℕ} → Readable g n m w → v.chord ≡ std.Some c → Checks g n m e c next w w' r
@@ -29,12 +38,13 @@ module _ {g n m e next : ℕ} {w : List ℕ} {v : Voice} where
         ok = rw s k.ok;
         within = k.skipped.within;
         before = rw s (before_same k.same (omega (arith, k.skipped.within, ready.room)) k.skipped.before);
+        kept = rw s tt;
         marks = λ cs c. rw s (k.marks cs c);
       }
 
   pub closes_none : v.chord ≡ std.None → Paced g n m w v → Closes g n m e next w w v (std.Ok v.from)
   closes_none s k =
-      record { same = same_self n w; ok = rw s; within = k.within; before = k.before; marks = λ cs c. rw s c }
+      record { same = same_self n w; ok = rw s; within = k.within; before = k.before; kept = rw s refl; marks = λ cs c. rw s c }
 
 -- ---- the item is played
 module _ {g n m e end : ℕ} {i : Item} {w : List ℕ} {v : Voice} (k : Paced g n m w v) where
@@ -43,13 +53,13 @@ module _ {g n m e end : ℕ} {i : Item} {w : List ℕ} {v : Voice} (k : Paced g 
       record {
         same = same_self n w;
         ok = rw t;
-        voice = record { chord = rw t; within = k.within; before = k.before; reached = k.reached };
+        voice = record { chord = rw t; within = k.within; before = k.before; stays = λ o b. b; reached = k.reached };
         marks = λ cs c. rw t c;
       }
 
   -- s is the voice with its last chord prolonged
   pub sounds_tied : {s : Voice} → i.rest ≡ false → i.tie_in ≡ true → s.from ≡ v.from
-      → as_chord s.chord ≡ prolonged_to end (as_chord v.chord) → last_start s.chord ≡ last_start v.chord
+      → as_chord s.chord ≡ prolonged_to end (as_chord v.chord) → ((o : ℕ) → last_start o s.chord ≡ last_start o v.chord)
       → Sounds g n m e i end w w v (std.Some s)
   sounds_tied {s} t u b c st =
       record {
@@ -59,8 +69,9 @@ module _ {g n m e end : ℕ} {i : Item} {w : List ℕ} {v : Voice} (k : Paced g 
             record {
               chord = rw (t, u) c;
               within = omega (arith, b, k.within);
-              before = rw (b, st) k.before;
-              reached = omega (arith, st, k.reached);
+              before = rw (b, st v.tick) k.before;
+              stays = λ o q. rw (b, st o) q;
+              reached = omega (arith, st v.tick, k.reached);
             };
         marks = λ cs o. rw (t, u) o;
       }
@@ -82,7 +93,8 @@ module _ {g n m e end : ℕ} {i : Item} {w : List ℕ} {v : Voice} (k : Paced g 
                 chord = rw (t, u, c);
                 within = omega (arith, b, x.within);
                 before = rw (b, c) (before_later k.reached x.before);
-                reached = omega (arith, ap last_start c);
+                stays = λ o q. rw (b, c) (before_later k.reached x.before);
+                reached = omega (arith, ap (last_start v.tick) c);
               };
           marks = λ cs o. rw (t, u) (x.marks cs o);
         }
@@ -110,19 +122,19 @@ sounded {g} {n} {m} {e} p {i} {w} {w'} {v} long {r} x =
 module _ {g n m e p : ℕ} (i : Item) {w : List ℕ} (v : Voice) where
   pub takes_not : fits? p (tie_of v) (timed_at p v i) ≡ false → Takes g n m e p i w w v std.None
   unfolding hear_one
-  takes_not f = record { hears = record { same = same_self n w; is = λ cs c. rw f }; tick = tt; short = tt }
+  takes_not f = record { hears = record { same = same_self n w; is = λ cs c. rw f }; stays = tt; tick = tt; short = tt }
 
   module _ {w' : List ℕ} (end : ℕ) (f : fits? p (tie_of v) (timed_at p v i) ≡ true) (long : end ≡ v.tick + item_ticks p (as_item i)) where
     pub takes_wrong : Sounds g n m e i end w w' v std.None → Takes g n m e p i w w' v std.None
     unfolding hear_one
-    takes_wrong x = record { hears = record { same = x.same; is = λ cs c. rw f (sounded p long x) }; tick = tt; short = tt }
+    takes_wrong x = record { hears = record { same = x.same; is = λ cs c. rw f (sounded p long x) }; stays = tt; tick = tt; short = tt }
 
     -- s is the voice with the item played, r the same with its tie and tick
     pub takes_fit : {s r : Voice} → end ≤ v.tick + 3145680 → Sounds g n m e i end w w' v (std.Some s) → r.tick ≡ end → as_tie r.tie ≡ tie_left i end
         → r.chord ≡ s.chord → r.from ≡ s.from → Takes g n m e p i w w' v (std.Some r)
     unfolding hear_one
     takes_fit {s} {r} short x tick tie chord from =
-        let st : last_start r.chord ≡ last_start s.chord = ap last_start chord in
+        let st : (o : ℕ) → last_start o r.chord ≡ last_start o s.chord = λ o. ap (last_start o) chord in
         record {
           hears =
               record {
@@ -143,11 +155,12 @@ module _ {g n m e p : ℕ} (i : Item) {w : List ℕ} (v : Voice) where
                       paced =
                           record {
                             within = omega (arith, from, x.voice.within);
-                            before = rw (from, st) x.voice.before;
-                            reached = omega (arith, st, tick, long, x.voice.reached);
+                            before = rw (from, st r.tick) (before_later (start_later v.tick r.tick s.chord (omega (arith, tick, long))) x.voice.before);
+                            reached = start_within v.tick r.tick r.chord (omega (arith, st v.tick, tick, long, x.voice.reached));
                           };
                     };
               };
+          stays = λ o b. rw (from, st o) (x.voice.stays o b);
           tick = tick ∙ long;
           short = omega (arith, tick);
         }

@@ -109,10 +109,10 @@ as_chord (std.Some c) = some (played_of c)
 abbrev pub chord_of : Voice → Option Played
 chord_of v = as_chord v.chord
 
--- the start of the last chord, 0 before the first
-abbrev pub last_start : std.Option Chord → ℕ
-last_start std.None = 0
-last_start (std.Some c) = c.start
+-- the start of the last chord, tick t before the first
+abbrev pub last_start : ℕ → std.Option Chord → ℕ
+last_start t std.None = t
+last_start t (std.Some c) = c.start
 
 -- the voice, cs being the chords closed before its last
 abbrev pub heard_of : Voice → List Played → Heard
@@ -120,31 +120,39 @@ heard_of v cs = record { ok = true; tie = tie_of v; chord = chord_of v; closed =
 
 -- ---- what the steps promise
 
--- no note before `from` starts with the last chord or later, and the last chord is not behind the tick
+-- No note before `from` starts with the last chord or later, and the last chord is not behind the tick.
+-- Before the first chord no note before `from` starts at the tick or later.
 pub record Paced (g n m : ℕ) (w : List ℕ) (v : Voice) : Type 0 where
   pub within : v.from ≤ m
-  pub before : Before g n w v.from (last_start v.chord)
-  pub reached : last_start v.chord ≤ v.tick
+  pub before : Before g n w v.from (last_start v.tick v.chord)
+  pub reached : last_start v.tick v.chord ≤ v.tick
+
+-- Where no note before v's `from` starts with v's last chord or later, none before s's `from` does with s's.
+-- This is so whichever tick t stands for the start of a chord that is not there.
+abbrev pub StaysBefore : ℕ → ℕ → List ℕ → List ℕ → Voice → Voice → Type 0
+StaysBefore g n w w' v s = (t : ℕ) → Before g n w v.from (last_start t v.chord) → Before g n w' s.from (last_start t s.chord)
 
 -- the last chord is closed, and r is where the notes of the next one are looked for, whether all is right or not
 pub record Closes (g n m e next : ℕ) (w w' : List ℕ) (v : Voice) (r : std.Result ℕ ℕ) : Type 0 where
   pub same : Same n w w'
   pub ok : is_ok r ≡ last_ok? e (notes_at g n m w) (chord_of v) next
   pub within : place_of r ≤ m
-  pub before : Before g n w' (place_of r) (last_start v.chord)
+  pub before : Before g n w' (place_of r) (last_start v.tick v.chord)
+  pub kept : std.IfNone v.chord (place_of r ≡ v.from)
   pub marks : (cs : List Played) → Marks g n m w cs → Marks g n m w' (closed_with (chord_of v) cs)
 
 -- the item is played, and leaves the voice s
-pub record Sounded (g n m : ℕ) (i : Item) (end : ℕ) (w' : List ℕ) (v s : Voice) : Type 0 where
+pub record Sounded (g n m : ℕ) (i : Item) (end : ℕ) (w w' : List ℕ) (v s : Voice) : Type 0 where
   pub chord : chord_of s ≡ chord_after (chord_of v) (record { from = v.tick; to = end; item = as_item i })
   pub within : s.from ≤ m
-  pub before : Before g n w' s.from (last_start s.chord)
-  pub reached : last_start s.chord ≤ v.tick
+  pub before : Before g n w' s.from (last_start v.tick s.chord)
+  pub stays : StaysBefore g n w w' v s
+  pub reached : last_start v.tick s.chord ≤ v.tick
 
 pub record Sounds (g n m e : ℕ) (i : Item) (end : ℕ) (w w' : List ℕ) (v : Voice) (r : std.Option Voice) : Type 0 where
   pub same : Same n w w'
   pub ok : is_some r ≡ sound_ok? e (notes_at g n m w) (chord_of v) (record { from = v.tick; to = end; item = as_item i })
-  pub voice : std.IfSome r (Sounded g n m i end w' v)
+  pub voice : std.IfSome r (Sounded g n m i end w w' v)
   pub marks : (cs : List Played) → Marks g n m w cs
       → Marks g n m w' (closed_after (chord_of v) (record { from = v.tick; to = end; item = as_item i }) cs)
 
@@ -168,9 +176,11 @@ pub record Hears (g n m : ℕ) (w w' : List ℕ) (heard : List Played → Heard)
 
 pub record Takes (g n m e p : ℕ) (i : Item) (w w' : List ℕ) (v : Voice) (r : std.Option Voice) : Type 0 where
   pub hears : Hears g n m w w' (λ cs. hear_one p e (notes_at g n m w) (heard_of v cs) (timed_at p v i)) r
+  pub stays : std.IfSome r (StaysBefore g n w w' v)
   pub tick : std.IfSome r (λ (s : Voice). s.tick ≡ v.tick + item_ticks p (as_item i))
   pub short : std.IfSome r (λ (s : Voice). s.tick ≤ v.tick + 3145680)
 
 pub record TakesAll (g n m e p : ℕ) (is : List items.Item) (w w' : List ℕ) (v : Voice) (r : std.Option Voice) : Type 0 where
   pub hears : Hears g n m w w' (λ cs. run p e (notes_at g n m w) (heard_of v cs) (timed_from p v.tick is)) r
+  pub stays : std.IfSome r (StaysBefore g n w w' v)
   pub tick : std.IfSome r (λ (s : Voice). s.tick ≡ v.tick + sum (map (item_ticks p) is))

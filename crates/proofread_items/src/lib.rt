@@ -1,7 +1,7 @@
 // The proof-reader's half that knows a staff's items: a voice is read item by item, its ties are followed, and it is played back.
 #![tactic(auto)]
 
-ghost use Rattle.std.specs.Prelude.{◌+◌, ◌*◌, ◌^◌, ◌≤◌, ◌<◌, true, not, ◌&&◌, ◌≡◌, eqb, leb, length, take, drop};
+ghost use Rattle.std.specs.Prelude.{ℕ, ◌+◌, ◌*◌, ◌^◌, ◌≤◌, ◌<◌, true, not, ◌&&◌, ◌≡◌, eqb, leb, length, take, drop};
 ghost use Rattle.std.specs.Bool.{beq};
 ghost use Rattle.rules.specs.Values.{ticks_of, is_whole};
 ghost use Rattle.rules.specs.Items.{item_of, read_items};
@@ -165,7 +165,7 @@ pub fn close_chord(
 
 // The last chord, prolonged to the tick `end`.
 fn prolonged(chord: Option<Chord>, end: u64) -> Option<Chord>
-    ensures { (as_chord result ≡ prolonged_to end (as_chord chord)) × (last_start result ≡ last_start chord) }
+    ensures { (as_chord result ≡ prolonged_to end (as_chord chord)) × ((t : ℕ) → last_start t result ≡ last_start t chord) }
 {
     match chord {
         Some(c) => Some(Chord { end, ..c }),

@@ -18,7 +18,7 @@ use Rattle.proofread_notes.specs.Columns.{notes_at}
 use Rattle.proofread_notes.proofs.Areas.{same_self}
 use Rattle.proofread_items.specs.Playing.{Heard, run, tie_of, heard_of, Closes, Holds, TakesAll}
 use Rattle.proofread_items.specs.declared.Voice.{Voice}
-use Rattle.proofread_items.proofs.Steps.{heard_is}
+use Rattle.proofread_items.proofs.Steps.{heard_is, start_within}
 use Rattle.laws.proofs.Order.{by_eq}
 use Rattle.proofread_voices.specs.Voices.{filled?, full?, ReadsBar, EndsVoice}
 
@@ -75,9 +75,9 @@ module _ (g n m e p start until v : ℕ) (is : List Item) (w : List ℕ) (voice 
       → ReadsBar g n m e p v start until is w w' voice std.None
   bar_short f t = record { same = t.hears.same; is_read = λ cs c. rw f (and-false (heard cs).ok) }
 
-  pub bar_full : {w' : List ℕ} {s : Voice} → start ≤ until → full? p v start until is ≡ true → TakesAll g n m e p is w w' at (std.Some s)
+  pub bar_full : {w' : List ℕ} {s : Voice} → at.from ≡ voice.from → at.chord ≡ voice.chord → start ≤ until → full? p v start until is ≡ true → TakesAll g n m e p is w w' at (std.Some s)
       → ReadsBar g n m e p v start until is w w' voice (std.Some s)
-  bar_full {w'} {s} l f t =
+  bar_full {w'} {s} from chord l f t =
       let pace = t.hears.is.paced in
       record {
         same = t.hears.same;
@@ -93,7 +93,8 @@ module _ (g n m e p start until v : ℕ) (is : List Item) (w : List ℕ) (voice 
                   };
               within = pace.within;
               before = pace.before;
-              reached = omega (arith, pace.reached, t.tick, full_reached p v start until is l f);
+              stays = λ o b. t.stays o (rw (from, chord) b);
+              reached = start_within s.tick until s.chord (omega (arith, pace.reached, t.tick, full_reached p v start until is l f));
               ticked = pace.reached;
             };
       }

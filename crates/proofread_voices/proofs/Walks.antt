@@ -22,10 +22,11 @@ use Rattle.bar_walk.proofs.WalkLaws.{Walking, walking_start, walking_on, bar_of,
 use Rattle.laws.proofs.BarLaws.{bar_at, bars_last, bars_more}
 use Rattle.laws.proofs.Order.{by_lt}
 use Rattle.proofread_notes.specs.Columns.{notes_at, Same, Before, Marks}
-use Rattle.proofread_notes.proofs.Areas.{same_self, same_then, notes_same}
+use Rattle.proofread_notes.proofs.Areas.{same_self, same_then, notes_same, before_later}
 use Rattle.proofread_items.specs.Playing.{Heard, last_ok?, closed_with, run, tie_of, chord_of, last_start, heard_of, Paced}
 use Rattle.proofread_items.specs.declared.Voice.{Voice}
 use Rattle.proofread_items.proofs.Reading.{run_failed}
+use Rattle.proofread_items.proofs.Steps.{start_later, start_within}
 use Rattle.proofread_voices.specs.Voices.{with_ok, voice_run, silent, voice_ok?, full?, filled?, Fits, NewVoice, ReadsBar, EndsVoice, ReadsVoice}
 use Rattle.proofread_voices.proofs.BarItems.{four_cut, four_voice, sum_more, sum_next, sum_part}
 use Rattle.proofread_voices.proofs.Steps.{full_is}
@@ -120,9 +121,9 @@ module _ (ds ws : List ℕ) (p end limit : ℕ) (counts hs ks : List ℕ) (g n m
     pub passed : first ≡ sum (take (4 * bar) counts)
     pub area : Same n w₀ w
     pub within : voice.from ≤ m
-    pub before : Before g n w voice.from (last_start voice.chord)
-    pub reached : last_start voice.chord ≤ walker.start
-    pub ticked : last_start voice.chord ≤ voice.tick
+    pub before : Before g n w voice.from (last_start 0 voice.chord)
+    pub reached : last_start walker.start voice.chord ≤ walker.start
+    pub ticked : last_start voice.tick voice.chord ≤ voice.tick
     pub hears : (cs : List Played) → Marks g n m w₀ cs
         → Coming g n m e p v (notes_at g n m w₀) (heard_by ds ws p end limit counts hs ks e (notes_at g n m w₀) v cs)
         (bars_ahead ds ws end (limit - bar) walker) (staff_from counts hs ks bar first) w voice
@@ -131,8 +132,8 @@ module _ (ds ws : List ℕ) (p end limit : ℕ) (counts hs ks : List ℕ) (g n m
   pub record Past (w : List ℕ) (voice : Voice) : Type 0 where
     pub area : Same n w₀ w
     pub within : voice.from ≤ m
-    pub before : Before g n w voice.from (last_start voice.chord)
-    pub ticked : last_start voice.chord ≤ voice.tick
+    pub before : Before g n w voice.from (last_start 0 voice.chord)
+    pub ticked : last_start voice.tick voice.chord ≤ voice.tick
     pub hears : (cs : List Played) → Marks g n m w₀ cs
         → Coming g n m e p v (notes_at g n m w₀) (heard_by ds ws p end limit counts hs ks e (notes_at g n m w₀) v cs) [] [] w voice
 
@@ -150,8 +151,8 @@ module _ {ds ws : List ℕ} {p end limit : ℕ} {counts hs ks : List ℕ} {g n m
         area = same_self n w₀;
         within = omega (arith, new.from);
         before = record { earlier = λ j h. absurd (omega (arith, new.from)) };
-        reached = omega (arith, new.start);
-        ticked = omega (arith, new.start);
+        reached = start_within 0 walker.start voice.chord (omega (arith, new.start));
+        ticked = start_within 0 voice.tick voice.chord (omega (arith, new.start));
         hears = λ cs c. record { closed = cs; marks = c; same = rw (new.is cs, all) };
       }
 
@@ -249,7 +250,7 @@ module _ {ds ws : List ℕ} {p end limit : ℕ} {counts hs ks : List ℕ} {g n m
             record {
               area = same_then now.area read.same;
               within = read.is_read.within;
-              before = read.is_read.before;
+              before = read.is_read.stays 0 now.before;
               ticked = read.is_read.ticked;
               hears =
                   λ cs c.
@@ -259,7 +260,7 @@ module _ {ds ws : List ℕ} {p end limit : ℕ} {counts hs ks : List ℕ} {g n m
 
         pub along_more : {next : Walker} {w' : List ℕ} {r : Voice} → ReadsBar g n m e p v walker.start (next_of walker).start here w w' voice (std.Some r) → end < 2 ^ 48 → Settled ds ws (next_of walker) next → (next_of walker).start < end
             → Along ds ws p end limit counts hs ks g n m e v w₀ next (bar + 1) (first + sum (take 4 (drop (4 * bar) counts))) w' r
-        along_more {next} read small s on =
+        along_more {next} {r = r} read small s on =
             let step = ahead_more now.walking.bar end some_left s on in
             record {
               walking = walking_on now.walking s end small on;
@@ -269,14 +270,14 @@ module _ {ds ws : List ℕ} {p end limit : ℕ} {counts hs ks : List ℕ} {g n m
                   rw q (sym (sum_next counts (4 * bar) 4 ∙ ap (λ (x : ℕ). x + sum (take 4 (drop (4 * bar) counts))) (sym now.passed)));
               area = same_then now.area read.same;
               within = read.is_read.within;
-              before = read.is_read.before;
-              reached = omega (arith, read.is_read.reached, s.same.start);
+              before = read.is_read.stays 0 now.before;
+              reached = start_within (next_of walker).start next.start r.chord (omega (arith, read.is_read.reached, s.same.start));
               ticked = read.is_read.ticked;
               hears = rest_here read (bars_ahead ds ws end (limit - (bar + 1)) next) step;
             }
 
   pub past_paced : {w : List ℕ} {voice : Voice} → Past ds ws p end limit counts hs ks g n m e v w₀ w voice → Paced g n m w voice
-  past_paced x = record { within = x.within; before = x.before; reached = x.ticked }
+  past_paced {voice = voice} x = record { within = x.within; before = before_later (start_later 0 voice.tick voice.chord (omega arith)) x.before; reached = x.ticked }
 
   -- ---- the voice's end
   module _ {w w' : List ℕ} {voice : Voice} {r : Bool} (room : m ≤ n) (past : Past ds ws p end limit counts hs ks g n m e v w₀ w voice)

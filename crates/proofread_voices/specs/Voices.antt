@@ -9,7 +9,7 @@ use Rattle.rules.specs.Items.{Item, Staff}
 use Rattle.rules.specs.ProofReader.{item_ticks, timed_from, voice_items, Played}
 use Rattle.rules.specs.ProofReaderTests.{fill?, empty_or_fill?, free_at?}
 use Rattle.proofread_notes.specs.Columns.{notes_at, Same, Before, Marks}
-use Rattle.proofread_items.specs.Playing.{Heard, last_ok?, closed_with, run, tie_of, chord_of, last_start, heard_of, Holds, Fails}
+use Rattle.proofread_items.specs.Playing.{Heard, last_ok?, closed_with, run, tie_of, chord_of, last_start, heard_of, StaysBefore, Holds, Fails}
 use Rattle.proofread_items.specs.declared.Voice.{Voice}
 
 -- ---- what is heard
@@ -51,7 +51,7 @@ pub record Fits (bs : List Bar) (counts heads keys : List ℕ) : Type 0 where
 pub record NewVoice (r : Voice) : Type 0 where
   pub is : (cs : List Played) → heard_of r cs ≡ silent cs
   pub from : r.from ≡ 0
-  pub start : last_start r.chord ≡ 0
+  pub start : last_start 0 r.chord ≡ 0
 
 -- the test at a bar's end, the bar going from tick `start` to tick `until`
 abbrev pub full? : ℕ → ℕ → ℕ → ℕ → List Item → Bool
@@ -63,17 +63,18 @@ abbrev pub bar_heard : ℕ → ℕ → List RawNote → ℕ → ℕ → ℕ → 
 bar_heard p e ns v start until is voice cs = with_ok (run p e ns (heard_of voice cs) (timed_from p start is)) (full? p v start until is)
 
 -- the bar is read, and leaves the voice s
-pub record Reaches (g n m until : ℕ) (w w' : List ℕ) (heard : List Played → Heard) (s : Voice) : Type 0 where
+pub record Reaches (g n m until : ℕ) (w w' : List ℕ) (heard : List Played → Heard) (voice s : Voice) : Type 0 where
   pub holds : (cs : List Played) → Marks g n m w cs → Holds g n m w' (heard cs) s
   pub within : s.from ≤ m
-  pub before : Before g n w' s.from (last_start s.chord)
-  pub reached : last_start s.chord ≤ until
-  pub ticked : last_start s.chord ≤ s.tick
+  pub before : Before g n w' s.from (last_start s.tick s.chord)
+  pub stays : StaysBefore g n w w' voice s
+  pub reached : last_start until s.chord ≤ until
+  pub ticked : last_start s.tick s.chord ≤ s.tick
 
 pub record ReadsBar (g n m e p v start until : ℕ) (is : List Item) (w w' : List ℕ) (voice : Voice) (r : std.Option Voice) : Type 0 where
   pub same : Same n w w'
   pub is_read : std.MatchOption r (Fails g n m w (bar_heard p e (notes_at g n m w) v start until is voice))
-      (Reaches g n m until w w' (bar_heard p e (notes_at g n m w) v start until is voice))
+      (Reaches g n m until w w' (bar_heard p e (notes_at g n m w) v start until is voice) voice)
 
 pub record EndsVoice (g n m e : ℕ) (w w' : List ℕ) (v : Voice) (r : Bool) : Type 0 where
   pub same : Same n w w'

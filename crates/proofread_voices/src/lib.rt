@@ -65,8 +65,8 @@ fn read_bar(
     until: u64,
     voice: Voice,
 ) -> Option<Voice>
-    requires { Readable g n m work.old × (voice.from ≤ m) × Before g n work.old voice.from (last_start voice.chord)
-        × (last_start voice.chord ≤ start) × (p ≤ 65535) × (start < 2 ^ 50) × (start ≤ until)
+    requires { Readable g n m work.old × (voice.from ≤ m) × Before g n work.old voice.from (last_start start voice.chord)
+        × (last_start start voice.chord ≤ start) × (p ≤ 65535) × (start < 2 ^ 50) × (start ≤ until)
         × (count < 2 ^ 32) × (first + count ≤ length heads.now) × (2 * length heads.now ≤ length keys.now) }
     ensures { ReadsBar g n m e p v start until (take count (drop first (read_items heads.now keys.now))) work.old work.new voice result }
 {

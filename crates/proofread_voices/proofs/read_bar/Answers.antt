@@ -13,7 +13,7 @@ returns-then-is_full c =
     let a = c.args in
     let t = c.in_ok-r.ensures in
     let is : List Item = take a.count (drop a.first (read_items a.heads.now a.keys.now)) in
-    bar_full a.g a.n a.m a.e a.p a.start a.until a.v is a.work.now a.voice _ (λ cs. refl) refl q.6
+    bar_full a.g a.n a.m a.e a.p a.start a.until a.v is a.work.now a.voice _ (λ cs. refl) refl refl refl q.6
     (sym (full_code a.p a.v a.start a.until a.count _ is t.tick (none_there a.heads.now a.keys.now a.first a.count q.8 q.9))
     ∙ sym c.is_full.ensures ∙ c.if-is_full.true)
     t

@@ -1,7 +1,8 @@
 use Prim.Native.Nat.{◌+◌, ◌*◌}
 use mathlib.Core.Path.{ap, ◌∙◌}
 use native.Mathlib.Omega.{arith}
-use Rattle.proofread_notes.proofs.Areas.{readable_same}
+use Rattle.proofread_notes.proofs.Areas.{readable_same, before_later}
+use Rattle.proofread_items.proofs.Steps.{start_later}
 use Rattle.bar_walk.specs.declared.Walker.{Walker}
 use Rattle.bar_walk.proofs.WalkLaws.{walking_sane, walking_ready}
 use Rattle.proofread_voices.proofs.Walks.{along_start, along_end, along_fails, along_last, along_more}
@@ -55,7 +56,7 @@ read_bar-requires c =
     let q = c.requires in (
       readable_same i.area q.0,
       i.within,
-      i.before,
+      before_later (start_later 0 c.loop-bar.walker.start c.loop-bar.voice.chord (omega arith)) i.before,
       i.reached,
       q.1.ticks,
       omega (arith, i.walking.start),
