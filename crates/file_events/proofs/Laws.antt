@@ -317,9 +317,9 @@ module _ (bs : List ℕ) (running at s : ℕ) (byte : s ≡ get_or bs at 256) wh
   unfolding message
   under_none low stop = both_none _ (rw (drop_byte bs at (omega arith), ← byte) (rw (lt-ltb s 128 low, stop)))
 
-  pub under_status : s < 128 → ChannelStatus running → message running (drop at bs) ≡ channel_message running (drop at bs)
+  pub under_status : s < 128 → (running ≡ 0 → ⊥) → message running (drop at bs) ≡ channel_message running (drop at bs)
   unfolding message
-  under_status low held = rw (drop_byte bs at (omega arith), ← byte) (rw (lt-ltb s 128 low, ne_eqb running 0 (λ e. omega (arith, held.least))))
+  under_status low held = rw (drop_byte bs at (omega arith), ← byte) (rw (lt-ltb s 128 low, ne_eqb running 0 held))
 
   module _ (high : 128 ≤ s) where
     pub by_status : s < 240 → message running (drop at bs) ≡ channel_message s (drop (at + 1) bs)

@@ -292,18 +292,24 @@ pub read_refused : (bs ss ds ws : List ℕ) (n : ℕ) → read_call bs (length s
     → ReadCalled as_it_is (read_call bs (length ss) (length ds) (length ws)) ss ds ws (refused n) ss ds ws
 read_refused bs ss ds ws n e = rw e (record { answered = refl; sizes = refl; deltas = refl; words = refl })
 
+pub read_numbered : (bs ss ds ws : List ℕ) (n : ℕ) → 0 < n → first_number (file_refusals bs) ≡ n
+    → ReadCalled as_it_is (read_call bs (length ss) (length ds) (length ws)) ss ds ws (refused n) ss ds ws
+read_numbered bs ss ds ws n l e = read_refused bs ss ds ws n (number_refused (file_refusals bs) _ (file_piece bs) n e l)
+
+pub size_numbered : (bs : List ℕ) (n : ℕ) → 0 < n → first_number (file_refusals bs) ≡ n → refused n ≡ read_size_call bs
+size_numbered bs n l e = sym (rw append-nil at (number_refused (file_refusals bs) [] (piece_size (file_piece bs)) n e l))
+
+-- the number of a file that was examined, and what the calls answer by it
 module _ (bs : List ℕ) {r : std.Result Examined Refusal} {n : Refusal} (is : r ≡ Err n) (h : Examines bs r) where
   pub examined_number : first_number (file_refusals bs) ≡ number n
   examined_number = rw is at h
 
-  pub read_numbered : (ss ds ws : List ℕ)
+  pub examined_read : (ss ds ws : List ℕ)
       → ReadCalled as_it_is (read_call bs (length ss) (length ds) (length ws)) ss ds ws (refused (number n)) ss ds ws
-  read_numbered ss ds ws =
-      read_refused bs ss ds ws (number n) (number_refused (file_refusals bs) _ (file_piece bs) (number n) examined_number (refusal_numbered n))
+  examined_read ss ds ws = read_numbered bs ss ds ws (number n) (refusal_numbered n) examined_number
 
-  pub size_numbered : refused (number n) ≡ read_size_call bs
-  size_numbered =
-      sym (rw append-nil at (number_refused (file_refusals bs) [] (piece_size (file_piece bs)) (number n) examined_number (refusal_numbered n)))
+  pub examined_size : refused (number n) ≡ read_size_call bs
+  examined_size = size_numbered bs (number n) (refusal_numbered n) examined_number
 
 pub examined_whole : (bs : List ℕ) {r : std.Result Examined Refusal} {e : Examined} → r ≡ Ok e → Examines bs r → Whole bs e
 examined_whole bs is h = rw is at h

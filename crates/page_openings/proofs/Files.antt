@@ -13,9 +13,9 @@ use Rattle.rules.specs.Piece.{Piece, piece}
 use Rattle.rules.specs.File.{file_piece, file_refusals, most_bytes}
 use Rattle.rules.specs.Refusals.{Result, refused, given, Refusal, first_number, piece_refusals, note_refusals, short_output, answers, as_it_is}
 use Rattle.rules.specs.Calls.{PieceSize, piece_size, read_call, ReadCalled}
-use Rattle.basics.specs.declared.Refusal as basics
 use Rattle.basics.specs.declared.Refusal.TheVariants.{NoRoom, TooManyBytes}
 use Rattle.basics.specs.Refusals.{number}
+use Rattle.admission.proofs.Refused.{positive}
 use Rattle.laws.specs.Admitted.{Passes}
 use Rattle.laws.proofs.Lists.{All-append, All-left}
 use Rattle.laws.proofs.Order.{by_eq}
@@ -102,11 +102,10 @@ fits xs l l₁ h = rw h (omega (arith, length-append xs (drop (length xs) l)))
 module _ (bs : List ℕ) {ss₀ ds₀ ws₀ ss ds ws : List ℕ} {answer : Result PieceSize}
     (hs : 65537 ≤ length ss₀) (hd : 500000 ≤ length ds₀) (hw : 500000 ≤ length ws₀)
     (run : ReadCalled as_it_is (read_call bs (length ss₀) (length ds₀) (length ws₀)) ss₀ ds₀ ws₀ answer ss ds ws) where
-  pub bytes_refused : (r : Room) (st mk : List ℕ) (f : basics.Refusal) → refused (number f) ≡ answer
-      → Opens (file_page any_file (room_for r) bs) r ss ds ws st mk (no_piece (number f))
-  bytes_refused r st mk f h =
-      let (e, l) = read_refused bs (length ss₀) (length ds₀) (length ws₀) hs hd hw (number f) (h ∙ run.answered) in
-      no_piece_opens r ss ds ws st mk _ f (number_page (file_piece bs) _ f (number_first (file_refusals bs) _ (number f) e l))
+  pub bytes_refused : (r : Room) (st mk : List ℕ) (n : ℕ) → refused n ≡ answer → Opens (file_page any_file (room_for r) bs) r ss ds ws st mk (no_piece n)
+  bytes_refused r st mk n h =
+      let (e, l) = read_refused bs (length ss₀) (length ds₀) (length ws₀) hs hd hw n (h ∙ run.answered) in
+      no_piece_opens r ss ds ws st mk _ n l (number_page (file_piece bs) _ n (number_first (file_refusals bs) _ n e l) l)
 
   module _ (s : PieceSize) (h : given s ≡ answer) where
     known : Passes (file_refusals bs) × (read_call bs (length ss₀) (length ds₀) (length ws₀) ≡ given (file_piece bs)) × (s ≡ piece_size (file_piece bs))
@@ -164,16 +163,18 @@ module _ (bs file : List ℕ) (read most : ℕ) (r : Room) (ss ds ws st mk : Lis
   pub too_large : most_bytes < read → Opens (file_page (bytes_for most) (room_for r) bs) r ss ds ws st mk (no_piece (number TooManyBytes))
   unfolding first_number
   too_large l =
-      no_piece_opens r ss ds ws st mk _ TooManyBytes
-      (number_page (file_piece bs) _ TooManyBytes (rw (lt-ltb most_bytes (length bs) (omega (arith, h.within)))))
+      let above = positive TooManyBytes in
+      no_piece_opens r ss ds ws st mk _ (number TooManyBytes) above
+      (number_page (file_piece bs) _ (number TooManyBytes) (rw (lt-ltb most_bytes (length bs) (omega (arith, h.within)))) above)
 
   module _ (few : read ≤ most_bytes) where
     pub not_held : most < read → Opens (file_page (bytes_for most) (room_for r) bs) r ss ds ws st mk (no_piece (number NoRoom))
     unfolding first_number
     not_held l =
         let e = h.counted few in
-        no_piece_opens r ss ds ws st mk _ NoRoom
-        (number_page (file_piece bs) _ NoRoom (rw (le-ltb most_bytes (length bs) (omega arith), lt-ltb most (length bs) (omega arith))))
+        let above = positive NoRoom in
+        no_piece_opens r ss ds ws st mk _ (number NoRoom) above
+        (number_page (file_piece bs) _ (number NoRoom) (rw (le-ltb most_bytes (length bs) (omega arith), lt-ltb most (length bs) (omega arith))) above)
 
     pub all_held : (o : Opened) → read ≤ most → Opens (file_page any_file (room_for r) file) r ss ds ws st mk o
         → Opens (file_page (bytes_for most) (room_for r) bs) r ss ds ws st mk o

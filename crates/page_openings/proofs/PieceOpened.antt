@@ -1,5 +1,5 @@
 -- A piece opened: its page is ahead, that of a refusal or that of all parts.
-use Prim.Native.Nat.{ℕ, ◌≤◌}
+use Prim.Native.Nat.{ℕ, ◌<◌, ◌≤◌}
 use mathlib.Core.List.{List, [], ◌∷◌, ◌++◌, map, append-nil}
 use mathlib.Core.Path.{◌≡◌, refl, sym, ap, ◌∙◌}
 use native.Mathlib.Nat.{sub-zero}
@@ -13,9 +13,6 @@ use Rattle.rules.specs.RawNotes.{parts}
 use Rattle.rules.specs.Bars.{bars, starts, marks}
 use Rattle.rules.specs.Refusals.{Result, refused, given, Refusal, first_number, note_refusals, as_it_is}
 use Rattle.std.proofs.lemmas.Option.{none-some}
-use Rattle.basics.specs.declared.Refusal as basics
-use Rattle.basics.specs.Refusals.{number}
-use Rattle.admission.proofs.Refused.{positive, not_zero}
 use Rattle.rules.specs.Calls.{part_count_call, bars_call, BarsCalled}
 use Rattle.laws.specs.Admitted.{Passes}
 use Rattle.laws.proofs.BarLaws.{bars_stop}
@@ -30,10 +27,9 @@ use Rattle.page_openings.specs.Places.{lines_at, turned_back, to_open, Ready, Pi
 -- ---- refusals
 
 -- no refusal is number 0, so the place of one has its line ahead
-pub refused_lines : (x : Piece) (s : Sheet) (rs : List Refusal) (f : basics.Refusal) → first_number rs ≡ number f
-    → lines_at x s (turned_back (number f)) ≡ page_of rs x
+pub refused_lines : (x : Piece) (s : Sheet) (rs : List Refusal) (n : ℕ) → first_number rs ≡ n → 0 < n → lines_at x s (turned_back n) ≡ page_of rs x
 unfolding page_of
-refused_lines x s rs f e = rw (ne_eqb (number f) 0 (not_zero f), ← append-nil rs, number_refused rs [] _ (number f) e (positive f))
+refused_lines x s rs n e l = rw (ne_eqb n 0 (λ z. omega (arith, z)), ← append-nil rs, number_refused rs [] _ n e l)
 
 -- all parts are ahead where none applies
 pub opened_lines : (x : Piece) (s : Sheet) (rs : List Refusal) (n : ℕ) → Passes rs → n ≡ length (parts x) → lines_at x s (to_open n) ≡ page_of rs x
@@ -55,20 +51,20 @@ refused_ready x r s n =
 
 module _ (x : Piece) (r : Room) (ss ms : List ℕ) where
   -- turned back by 1 to 6
-  pub piece_refused : (f : basics.Refusal) → refused (number f) ≡ part_count_call x → PieceOpened x r ss ms (turned_back (number f))
-  piece_refused f h =
-      let (e, l) = refused_first (length (parts x)) (note_refusals x) (number f) (note_numbers x) h in
+  pub piece_refused : (n : ℕ) → refused n ≡ part_count_call x → PieceOpened x r ss ms (turned_back n)
+  piece_refused n h =
+      let (e, l) = refused_first (length (parts x)) (note_refusals x) n (note_numbers x) h in
       record {
-        page = λ s. refused_lines x s (note_refusals x ++ room_for r x) f (number_first (note_refusals x) (room_for r x) (number f) e l);
-        ready = λ s _ _. refused_ready x r s (number f);
+        page = λ s. refused_lines x s (note_refusals x ++ room_for r x) n (number_first (note_refusals x) (room_for r x) n e l) l;
+        ready = λ s _ _. refused_ready x r s n;
       }
 
   -- or let pass by them, and turned back by 8
-  pub room_refused : (f : basics.Refusal) → Passes (note_refusals x) → number f ≡ first_number (room_for r x) → PieceOpened x r ss ms (turned_back (number f))
-  room_refused f p e =
+  pub room_refused : (n : ℕ) → Passes (note_refusals x) → n ≡ first_number (room_for r x) → 0 < n → PieceOpened x r ss ms (turned_back n)
+  room_refused n p e l =
       record {
-        page = λ s. refused_lines x s (note_refusals x ++ room_for r x) f (number_after (note_refusals x) (room_for r x) p ∙ sym e);
-        ready = λ s _ _. refused_ready x r s (number f);
+        page = λ s. refused_lines x s (note_refusals x ++ room_for r x) n (number_after (note_refusals x) (room_for r x) p ∙ sym e) l;
+        ready = λ s _ _. refused_ready x r s n;
       }
 
 pub count_given : (x : Piece) (n : ℕ) → given n ≡ part_count_call x → Passes (note_refusals x) × (n ≡ length (parts x))

@@ -1,15 +1,15 @@
 -- What was read opened: a refusal with no piece, or the piece that the arrays hold.
-use Prim.Native.Nat.{ℕ}
+use Prim.Native.Nat.{ℕ, ◌<◌}
 use mathlib.Core.List.{List, [], ◌∷◌, ◌++◌}
 use mathlib.Core.Option.{Option, none, some}
 use mathlib.Core.Path.{◌≡◌, refl, sym, ap, ◌∙◌}
+use native.Mathlib.Nat.{pos_of_ne-zero}
 use native.Mathlib.Omega.{arith}
 use borrow.Author.Tests.{ne_eqb}
 use Rattle.std.specs.Prelude.{Some, None}
-use Rattle.basics.specs.declared.Refusal as basics
 use Rattle.basics.specs.declared.Refusal.TheVariants.{SizesDisagree}
 use Rattle.basics.specs.Refusals.{number}
-use Rattle.admission.proofs.Refused.{positive, not_zero}
+use Rattle.admission.proofs.Refused.{positive}
 use lib.ListN.{take}
 use Rattle.rules.specs.Piece.{Piece, piece}
 use Rattle.rules.specs.Refusals.{Refusal, first_number, piece_refusals, note_refusals}
@@ -24,8 +24,8 @@ use Rattle.page_openings.specs.declared.Opened.{Opened}
 use Rattle.page_openings.proofs.PieceOpened.{refused_lines, refused_ready}
 
 -- the page of the first refusal that applies is its line
-pub number_page : (x : Piece) (rs : List Refusal) (f : basics.Refusal) → first_number rs ≡ number f → page_of rs x ≡ refused_line (number f) ∷ []
-number_page x rs f e = sym (refused_lines x (sheet [] [] [] [] []) rs f e) ∙ rw (ne_eqb (number f) 0 (not_zero f))
+pub number_page : (x : Piece) (rs : List Refusal) (n : ℕ) → first_number rs ≡ n → 0 < n → page_of rs x ≡ refused_line n ∷ []
+number_page x rs n e l = sym (refused_lines x (sheet [] [] [] [] []) rs n e l) ∙ rw (ne_eqb n 0 (λ z. omega (arith, z)))
 
 pub no_piece_within : (ss ds ws : List ℕ) (n : ℕ) → Within ss ds ws (no_piece n)
 no_piece_within ss ds ws n = record { sizes = omega arith; deltas = omega arith; words = omega arith }
@@ -36,20 +36,22 @@ front_within c r ss ds ws st mk o f h =
     record { sizes = rw h.sizes f.sizes; deltas = rw h.deltas f.deltas; words = rw h.words f.words }
 
 module _ (r : Room) (ss ds ws st mk : List ℕ) where
-  pub no_piece_opens : (page : List Line) (f : basics.Refusal) → page ≡ refused_line (number f) ∷ [] → Opens page r ss ds ws st mk (no_piece (number f))
-  no_piece_opens page f e =
-      record { ahead_of = λ s. rw (ne_eqb (number f) 0 (not_zero f)) (sym e); ready = λ s _ _. refused_ready _ r s (number f) }
+  pub no_piece_opens : (page : List Line) (n : ℕ) → 0 < n → page ≡ refused_line n ∷ [] → Opens page r ss ds ws st mk (no_piece n)
+  no_piece_opens page n l e =
+      record {
+        ahead_of = λ s. rw (ne_eqb n 0 (λ z. omega (arith, z))) (sym e);
+        ready = λ s _ _. refused_ready _ r s n;
+      }
 
   -- ---- texts
 
   -- a piece that the arrays do not hold whole has a number of its own
-  pub due_opens : (x : Piece) (f : basics.Refusal) → number f ≡ first_number (piece_refusals x)
-      → Opens (page_of (note_refusals x ++ room_for r x) x) r ss ds ws st mk (no_piece (number f))
-  due_opens x f e =
-      let l = positive f in
-      let n = number f in
-      no_piece_opens _ f
-      (number_page x (note_refusals x ++ room_for r x) f (number_first (note_refusals x) (room_for r x) n (number_first (piece_refusals x) _ n (sym e) l) l))
+  pub due_opens : (x : Piece) (n : ℕ) → (n ≡ 0 → ⊥) → n ≡ first_number (piece_refusals x)
+      → Opens (page_of (note_refusals x ++ room_for r x) x) r ss ds ws st mk (no_piece n)
+  due_opens x n z e =
+      let l = pos_of_ne-zero z in
+      no_piece_opens _ n l
+      (number_page x (note_refusals x ++ room_for r x) n (number_first (note_refusals x) (room_for r x) n (number_first (piece_refusals x) _ n (sym e) l) l) l)
 
   pub whole_opens : (x : Piece) (c : Counts) (o : Opened) → x ≡ piece (take c.sizes ss) (take c.deltas ds) (take c.words ws)
       → FrontOpened c r ss ds ws st mk o → Opens (page_of (note_refusals x ++ room_for r x) x) r ss ds ws st mk o
@@ -64,7 +66,7 @@ module _ (r : Room) (ss ds ws st mk : List ℕ) where
 
   pub bad_opens : (o : Option Piece) → Answers o None ss ds ws → Opens (read_page (room_for r) o) r ss ds ws st mk (no_piece (number SizesDisagree))
   unfolding Answers
-  bad_opens none h = no_piece_opens _ SizesDisagree refl
+  bad_opens none h = no_piece_opens _ (number SizesDisagree) (positive SizesDisagree) refl
   bad_opens (some x) h = absurd h
 
   pub lines_open : (o : Option Piece) (c : Counts) (t : Opened) → LinesOpen c r ss ds ws st mk t → Answers o (Some c) ss ds ws

@@ -10,7 +10,7 @@ ghost use Rattle.replay_text.specs.Calls.{Within, asked_at};
 use replayed::{Number, Scanned};
 
 // Why a text cannot be read on.
-#[derive(Clone, Copy)]
+#[derive(Clone, Copy, Debug, PartialEq, Eq)]
 pub enum Fault {
     // It ends early.
     Ends,

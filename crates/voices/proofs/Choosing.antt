@@ -20,12 +20,12 @@ use Rattle.laws.proofs.Tests.{position_at, position_found, position_lost, positi
 
 -- ---- the first that passes a test, as the library gives it and as the rules do
 module _ {A : Type 0} (f : A → Bool) where
-  first_place : (xs : List A) → position_or_len f xs ≡ position f xs
+  pub first_place : (xs : List A) → position_or_len f xs ≡ position f xs
   unfolding position
   first_place [] = refl
   first_place (x ∷ xs) = elim (by_bool (f x)) [ inl t ↦ rw t | inr t ↦ rw t (omega (arith, first_place xs)) ]
 
-  first_some : (xs : List A) {v : ℕ} → library.position f xs ≡ Some v → (v ≡ position f xs) × (v < length xs)
+  pub first_some : (xs : List A) {v : ℕ} → library.position f xs ≡ Some v → (v ≡ position f xs) × (v < length xs)
   first_some xs {v} e =
       elim (by_lt (position_or_len f xs) (length xs)) [
         | inl h ↦
@@ -35,7 +35,7 @@ module _ {A : Type 0} (f : A → Bool) where
         | inr h ↦ let none : None ≡ Some v = rw (le-ltb _ _ h) at e in absurd (false≢true (ap is_some none))
       ]
 
-  first_none : (xs : List A) → library.position f xs ≡ None → length xs ≤ position f xs
+  pub first_none : (xs : List A) → library.position f xs ≡ None → length xs ≤ position f xs
   first_none xs e =
       elim (by_lt (position_or_len f xs) (length xs)) [
         | inl h ↦ let some : Some (position_or_len f xs) ≡ None = rw (lt-ltb _ _ h) at e in absurd (true≢false (ap is_some some))
@@ -43,7 +43,7 @@ module _ {A : Type 0} (f : A → Bool) where
       ]
 
 -- ---- the earliest end
-best_is : (ends : List ℕ) {best : ℕ} → length ends ≡ 4 → IsFirstBest ltb ends 4 best → best ≡ position (λ e. every (leb e) ends) ends
+pub best_is : (ends : List ℕ) {best : ℕ} → length ends ≡ 4 → IsFirstBest ltb ends 4 best → best ≡ position (λ e. every (leb e) ends) ends
 best_is ends {best} four b =
     let lowest = b.1 in
     let first = b.2 in

@@ -26,7 +26,7 @@ pub returns-then-s-lt128 : goal.returns-then-s-lt128
 returns-then-s-lt128 c =
     let byte = c.from-s.ensures ∙ byte_there _ _ c.in_ok-get.ensures.lookup.0 _ c.in_ok-get.ensures.lookup.1 in
     let status : ChannelStatus c.in_ok-running.field-0 = rw c.in_ok-running.was at c.requires.0 in
-    rw c.in_ok-running.was (rw (under_status _ _ _ _ byte c.if-s-lt128.true (status)) c.channel_message.ensures)
+    rw c.in_ok-running.was (rw (under_status _ c.in_ok-running.field-0 _ _ byte c.if-s-lt128.true (λ e. omega (arith, e, status.least))) c.channel_message.ensures)
 
 pub channel_message-requires-then-s-lt240 : goal.channel_message-requires-then-s-lt240
 channel_message-requires-then-s-lt240 c =

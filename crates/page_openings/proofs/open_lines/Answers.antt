@@ -1,8 +1,8 @@
 -- `page_openings::open_lines` opens a text of three lines: the number of a piece that is not held whole, or the piece.
 use mathlib.Core.Path.{ap, ◌∙◌, sym}
 use native.Mathlib.Omega.{arith}
-use Rattle.basics.specs.Refusals.{number_of}
-use Rattle.admission.proofs.Refused.{positive}
+use Rattle.basics.specs.Refusals.{number, number_of}
+use Rattle.admission.proofs.Refused.{positive, not_zero}
 use Rattle.page_openings.proofs.Read.{no_piece_within, front_within, due_opens, whole_opens}
 use Rattle.page_openings.proofs.open_lines.Goals as goal
 
@@ -14,7 +14,7 @@ returns-in-Err c =
       within = no_piece_within _ _ _ _;
       opens = λ x h.
           let d = c.number_due.ensures.due x h in
-          due_opens _ _ _ _ _ _ x f (sym is ∙ d.number (λ z. omega (arith, z, is, positive f)));
+          due_opens _ _ _ _ _ _ x (number f) (not_zero f) (sym is ∙ d.number (λ z. omega (arith, z, is, positive f)));
     })
 
 pub open_front-requires : goal.open_front-requires
