@@ -79,10 +79,10 @@ extern "C" {
    right, and so wherever an entry's arguments or a layout of bits change: C links a program that was compiled with
    another header, and says nothing. Compile with the header that came with the archive. MINOR grows where something is
    added. CHANGELOG.md has what changed. */
-#define ACORDE_VERSION "2.0.2"
+#define ACORDE_VERSION "2.0.3"
 #define ACORDE_VERSION_MAJOR 2
 #define ACORDE_VERSION_MINOR 0
-#define ACORDE_VERSION_PATCH 2
+#define ACORDE_VERSION_PATCH 3
 
 /* ---- Limits ------------------------------------------------------------------------------------------------------ */
 

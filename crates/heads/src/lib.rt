@@ -11,6 +11,7 @@ use changes::{Head, PartHead};
 use track_events::cut;
 
 // The head of a piece: tempo, meter and key. Refusals 1 to 6.
+#[tactic(auto, using(opening::proofs::Opening::refuses_last))]
 pub fn head(sizes: &[u32], deltas: &[u32], words: &[u32]) -> Result<Head, Refusal>
     ensures { HeadCalled (piece sizes.now deltas.now words.now) result }
 {
@@ -22,6 +23,7 @@ pub fn head(sizes: &[u32], deltas: &[u32], words: &[u32]) -> Result<Head, Refusa
 }
 
 // How many parts a piece has, 1 to 32. Refusals 1 to 6.
+#[tactic(auto, using(opening::proofs::Opening::refuses_last))]
 pub fn part_count(sizes: &[u32], deltas: &[u32], words: &[u32]) -> Result<u32, Refusal>
     ensures { count_answer result ≡ part_count_call (piece sizes.now deltas.now words.now) }
 {
@@ -30,6 +32,7 @@ pub fn part_count(sizes: &[u32], deltas: &[u32], words: &[u32]) -> Result<u32, R
 }
 
 // The head of a part, numbered from 0: channel and program. Refusals 1 to 7.
+#[tactic(auto, using(opening::proofs::Opening::refuses_last))]
 pub fn part_head(
     sizes: &[u32],
     deltas: &[u32],
