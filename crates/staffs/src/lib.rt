@@ -15,7 +15,9 @@ use basics::{MOST_BARS, Refusal};
 use engraver::Size;
 use track_events::cut;
 
-// The four voices of a track's notes, on their own grid, in the work area: how many chords each has.
+// The four voices of a track's notes, on their own grid, in the work area: how many chords each has. Not put into its caller, where the 16 KiB of
+// its queues would stay on the stack beside those of the bars' source.
+#[inline(never)]
 fn track_voices(deltas: &[u32], words: &[u32], p: u64, work: &mut [u64], n: usize) -> [usize; 4]
     requires { HasTrack deltas.now words.now p work.old n }
     ensures { TrackVoices p (raw_notes (events_of deltas.now words.now)) n result work.new }
