@@ -1,4 +1,3 @@
-pub mod AutomationWords
 pub mod DroppedLaws
 pub mod MarkerLaws
 pub mod MirrorLaws
